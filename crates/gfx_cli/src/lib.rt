@@ -1,0 +1,14 @@
+//! The commands of the program, over a source and two sinks.
+#![tactic(auto)]
+
+mod command;
+mod counts;
+mod run;
+mod status;
+mod stop;
+#[cfg(test)]
+mod tests;
+
+pub use run::run_files;
+pub use status::Status;
+use stop::Stop;

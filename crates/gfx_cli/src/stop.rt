@@ -1,0 +1,60 @@
+// Why a command ends before its work is done.
+ghost use Rattle.std.specs.Prelude.{◌≡◌};
+ghost use Rattle.gfx_cli.specs.declared.stop.Stop.TheVariants.{WantMemory as NoMemory, WriteFault as NotWritten};
+ghost use Rattle.gfx_cli.specs.Stop.{stop_of};
+
+use gfx_decode::DecodeFault;
+use gfx_io::Failed;
+use gfx_types::Fault;
+use std::alloc::AllocError;
+
+/// Why a command ends before its work is done. Each has a status, and most have a line in the notes.
+#[derive(Clone, Copy, Debug, PartialEq, Eq)]
+pub enum Stop {
+    WantMemory,
+    Usage,
+    BadFile {
+        fault: Fault,
+        block: u64,
+        offset: u64,
+    },
+    ReadFault,
+    WriteFault,
+}
+
+impl From<DecodeFault> for Stop {
+    ghost from_gives = { λ fault stop. stop ≡ stop_of fault };
+
+    fn from(fault: DecodeFault) -> Self {
+        match fault {
+            DecodeFault::Bad {
+                fault,
+                block,
+                offset,
+            } => Stop::BadFile {
+                fault,
+                block,
+                offset,
+            },
+            DecodeFault::ReadFault => Stop::ReadFault,
+            DecodeFault::WantMemory => Stop::WantMemory,
+        }
+    }
+}
+
+impl From<AllocError> for Stop {
+    ghost from_gives = { λ _ stop. stop ≡ NoMemory };
+
+    fn from(_: AllocError) -> Self {
+        Stop::WantMemory
+    }
+}
+
+impl From<Failed> for Stop {
+    ghost from_gives = { λ _ stop. stop ≡ NotWritten };
+
+    /// What a command hands on is a failed write; a failed read is a fault of its decoder.
+    fn from(_: Failed) -> Self {
+        Stop::WriteFault
+    }
+}

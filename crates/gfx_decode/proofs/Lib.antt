@@ -1,0 +1,3 @@
+pub mod Buffer
+pub mod Front
+pub mod Steps

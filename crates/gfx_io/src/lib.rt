@@ -1,0 +1,14 @@
+//! The outside, as the programs see it: where bytes come from and where they go, and the numbers in them.
+#![tactic(auto)]
+
+mod fields;
+mod memory;
+mod outside;
+mod standard;
+#[cfg(test)]
+mod tests;
+
+pub use fields::{take_u32, take_u64};
+pub use memory::{MemSink, MemSource};
+pub use outside::{Failed, Sink, Source, fill, write_whole};
+pub use standard::{StdSink, StdSource};
