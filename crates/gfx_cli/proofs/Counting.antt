@@ -1,41 +1,76 @@
 -- How the counts follow the blocks, one at a time.
-use Rattle.std.proofs.Common.{◌≡◌, ℕ, ◌+◌, ◌==◌, ◌&&◌, true, false, drop, add-zero, zero-add, ◌≤◌, List, [], ◌∷◌, length, Some, None, Ok, Err, Option, cond, subst, sym, refl, ap, ◌∙◌, arith, eq-eqb}
+use Rattle.std.proofs.Common.{◌≡◌, ℕ, ◌+◌, ◌<◌, ◌^◌, ◌==◌, true, false, add-zero, zero-add, ◌≤◌, List, [], ◌∷◌, length, Some, None, Ok, Err, Option, cond, Bool, subst, sym, ap, ◌∙◌, arith}
 use Rattle.std.specs.Prelude.{count_by}
+use mir.Val.{bool_byte}
 use Rattle.std.proofs.lemmas.List.Sums.{sum_by-cons}
 use Rattle.gfx_blocks.specs.declared.header.Header.{Header}
-use Rattle.gfx_model.specs.Spelling.{IsSpelled}
-use Rattle.gfx_types.specs.declared.block.Block.{Block}
-use Rattle.gfx_types.specs.declared.block.Block.TheVariants.{Unbuilt}
-use Rattle.gfx_model.specs.Blocks.{call_id, Blocks, Item, Clean, blocks_of, blocks_at, minor_of, with_item, only_end, block_type}
-use Rattle.gfx_model.specs.Counts.{is_call, is_present}
-use Rattle.gfx_model.specs.Laws.{whole-front, block_type-call}
+use Rattle.gfx_blocks.specs.Payloads.{content_of}
+use Rattle.gfx_model.specs.Blocks.{Content, Whole, clean, effect as in_file, minor_of}
+use Rattle.gfx_model.specs.Text.{is_call, is_present}
+use Rattle.gfx_grammar.specs.Splitting.{Blocks, blocks_of, blocks_from, with_item, only_end}
+use Rattle.gfx_types.specs.declared.call.Call.{Call}
+use Rattle.gfx_types.specs.declared.effect.Meta.{Meta}
+use Rattle.gfx_types.specs.declared.effect.Effect.TheVariants as effect
+use Rattle.gfx_model.specs.Events.{event_of, event_of_call, event_of_meta}
+use Rattle.gfx_model.specs.Spelling.{id_of}
+use Rattle.gfx_cli.proofs.Events.{with_call, with_meta, with_marker}
 use Rattle.gfx_decode.specs.declared.decoder.Raw.{Raw}
-use Rattle.gfx_decode.specs.declared.decoder.Stage.{Stage}
-use Rattle.gfx_decode.specs.declared.decoder.Stage.TheVariants.{At}
+use Rattle.gfx_decode.specs.Reachable.{blocks_ahead}
+use Rattle.gfx_decode.specs.Stage.{Stage, Fresh, At, Failed}
 use Rattle.gfx_decode.specs.declared.fault.DecodeFault.{DecodeFault}
 use Rattle.gfx_decode.specs.declared.fault.DecodeFault.TheVariants.{Bad, ReadFault, WantMemory}
 use Rattle.gfx_io.specs.Told.{IfTold}
-use Rattle.gfx_decode.specs.Decoding.{coming, Gives, GivesHeader, IsBlockAt, item_of, behind}
+use Rattle.gfx_decode.specs.Decoding.{coming, Gives, GivesHeader, IsBlockAt, item_of, behind, start_of}
 use Rattle.gfx_cli.specs.declared.counts.Counts.{Counts}
-use Rattle.gfx_cli.specs.Counts.{with_block, CountsAll}
+use Rattle.gfx_cli.specs.Counts.{one_if, with_block, CountsAll}
+
+-- ---- the counts with one block more
+
+pub counts_call : (counts : Counts) (thread : ℕ) (c : Call) (ends : Bool) (n : ℕ) → ends ≡ (id_of (event_of_call c) == 48) → n ≡ bool_byte ends
+    → record { minor = counts.minor; blocks = counts.blocks + 1; calls = counts.calls + 1; frames = counts.frames + n } ≡ with_block counts (in_file thread (event_of (effect.Call c)))
+counts_call counts thread c true n is one =
+    let (call, present) = with_call thread c in
+    ap (λ k. record { minor = counts.minor; blocks = counts.blocks + 1; calls = counts.calls + 1; frames = counts.frames + k }) one
+    ∙ ap (λ b. record { minor = counts.minor; blocks = counts.blocks + 1; calls = counts.calls + 1; frames = counts.frames + one_if b }) (is ∙ sym present)
+    ∙ ap (λ b. record { minor = counts.minor; blocks = counts.blocks + 1; calls = counts.calls + one_if b; frames = counts.frames + one_if (is_present (in_file thread (event_of_call c))) }) (sym call)
+counts_call counts thread c false n is none =
+    let (call, present) = with_call thread c in
+    ap (λ k. record { minor = counts.minor; blocks = counts.blocks + 1; calls = counts.calls + 1; frames = counts.frames + k }) none
+    ∙ ap (λ b. record { minor = counts.minor; blocks = counts.blocks + 1; calls = counts.calls + 1; frames = counts.frames + one_if b }) (is ∙ sym present)
+    ∙ ap (λ b. record { minor = counts.minor; blocks = counts.blocks + 1; calls = counts.calls + one_if b; frames = counts.frames + one_if (is_present (in_file thread (event_of_call c))) }) (sym call)
+
+-- neither a call nor a present
+counts_other : (counts : Counts) (c : Content) → is_call c ≡ false → is_present c ≡ false
+    → record { minor = counts.minor; blocks = counts.blocks + 1; calls = counts.calls; frames = counts.frames } ≡ with_block counts c
+counts_other counts c call present =
+    ap (λ n. record { minor = counts.minor; blocks = counts.blocks + 1; calls = n; frames = counts.frames }) (sym (add-zero counts.calls))
+    ∙ ap (λ n. record { minor = counts.minor; blocks = counts.blocks + 1; calls = counts.calls + 0; frames = n }) (sym (add-zero counts.frames))
+    ∙ ap (λ b. record { minor = counts.minor; blocks = counts.blocks + 1; calls = counts.calls + one_if b; frames = counts.frames + 0 }) (sym call)
+    ∙ ap (λ b. record { minor = counts.minor; blocks = counts.blocks + 1; calls = counts.calls + one_if (is_call c); frames = counts.frames + one_if b }) (sym present)
+
+pub counts_meta : (counts : Counts) (thread : ℕ) (m : Meta)
+    → record { minor = counts.minor; blocks = counts.blocks + 1; calls = counts.calls; frames = counts.frames } ≡ with_block counts (in_file thread (event_of (effect.Meta m)))
+counts_meta counts thread m = let (call, present) = with_meta thread m in counts_other counts (in_file thread (event_of_meta m)) call present
+
+pub counts_marker : (counts : Counts) (thread : ℕ) (begin : Bool) (frame : ℕ)
+    → record { minor = counts.minor; blocks = counts.blocks + 1; calls = counts.calls; frames = counts.frames } ≡ with_block counts (in_file thread (event_of (effect.Marker begin frame)))
+counts_marker counts thread begin frame = let (call, present) = with_marker thread begin frame in counts_other counts (in_file thread (event_of (effect.Marker begin frame))) call present
 
 -- the counts so far, and the blocks still to come, are those of the whole file
 pub record IsSplit (counts : Counts) (all : List ℕ) (rest : Blocks) : Type 0 where
   pub minor : counts.minor ≡ minor_of all
   pub block_count : counts.blocks + length rest.items ≡ length (blocks_of all).items
-  pub call_count : counts.calls + count_by is_call rest.items ≡ count_by is_call (blocks_of all).items
-  pub frame_count : counts.frames + count_by is_present rest.items ≡ count_by is_present (blocks_of all).items
+  pub call_count : counts.calls + count_by (λ w. is_call w.content) rest.items ≡ count_by (λ w. is_call w.content) (blocks_of all).items
+  pub frame_count : counts.frames + count_by (λ w. is_present w.content) rest.items ≡ count_by (λ w. is_present w.content) (blocks_of all).items
   pub ends : rest.end ≡ (blocks_of all).end
 
-split_block : (counts : Counts) (all : List ℕ) (item : Item) (block : Block) (rest : Blocks)
-    → IsSplit counts all (with_item item rest) → is_call item ≡ true → IsSpelled block (drop 12 item.bytes) → IsSplit (with_block counts block) all rest
-split_block counts all item (Unbuilt id fields) rest split call spelled =
-    let calls : count_by is_call (item ∷ rest.items) ≡ 1 + count_by is_call rest.items =
-    sum_by-cons (λ (x : Item). cond (is_call x) 1 0) item rest.items ∙ ap (λ b. cond b 1 0 + count_by is_call rest.items) call in
-    let frames : count_by is_present (item ∷ rest.items) ≡ cond (id == 48) 1 0 + count_by is_present rest.items =
-    sum_by-cons (λ (x : Item). cond (is_present x) 1 0) item rest.items
-    ∙ ap (λ b. cond (b && (call_id (drop 12 item.bytes) == 48)) 1 0 + count_by is_present rest.items) call
-    ∙ ap (λ n. cond (n == 48) 1 0 + count_by is_present rest.items) (sym spelled.0) in
+split_block : (counts : Counts) (all : List ℕ) (w : Whole) (rest : Blocks)
+    → IsSplit counts all (with_item w rest) → IsSplit (with_block counts w.content) all rest
+split_block counts all w rest split =
+    let calls : count_by (λ w. is_call w.content) (w ∷ rest.items) ≡ one_if (is_call w.content) + count_by (λ w. is_call w.content) rest.items =
+    sum_by-cons (λ (x : Whole). cond (is_call x.content) 1 0) w rest.items in
+    let frames : count_by (λ w. is_present w.content) (w ∷ rest.items) ≡ one_if (is_present w.content) + count_by (λ w. is_present w.content) rest.items =
+    sum_by-cons (λ (x : Whole). cond (is_present x.content) 1 0) w rest.items in
     record {
       minor = split.minor;
       block_count = omega (arith, split.block_count);
@@ -46,21 +81,19 @@ split_block counts all item (Unbuilt id fields) rest split call spelled =
 
 -- one block moves from what is to come to what is counted
 pub split_step : (counts : Counts) (all : List ℕ) (stage : Stage) (raw : Raw) (before after : List ℕ)
-    → IsSplit counts all (coming stage before) → IsBlockAt stage raw → Gives stage (Ok (Some raw)) before after
-    → IsSplit (with_block counts raw.block) all (coming (behind raw) after)
-split_step counts all stage raw before after split block gives =
-    let now : IsSplit counts all (with_item (item_of raw) (coming (behind raw) after)) = subst (IsSplit counts all) gives split in
-    let whole = whole-front raw.number (length raw.bytes.now) raw.bytes.now block.whole in
-    split_block counts all (item_of raw) raw.block (coming (behind raw) after) now (eq-eqb (block_type raw.bytes.now) 4 (block_type-call raw.bytes.now whole.head)) block.spelled
+    → IsSplit counts all (coming stage before) → Gives stage (Ok (Some raw)) before after
+    → IsSplit (with_block counts (content_of raw.block)) all (coming (behind stage raw) after)
+split_step counts all stage raw before after split gives =
+    split_block counts all (item_of raw) (coming (behind stage raw) after) (subst (IsSplit counts all) gives split)
 
 -- behind the header everything is to come
 pub split_start : (header : Header) (all rest : List ℕ) → GivesHeader (Ok header) all rest
-    → IsSplit (record { minor = header.minor; blocks = 0; calls = 0; frames = 0 }) all (blocks_at 1 16 rest)
+    → IsSplit (record { minor = header.minor; blocks = 0; calls = 0; frames = 0 }) all (blocks_from header.minor (start_of header) rest)
 split_start header all rest gives = record {
   minor = gives.1;
   block_count = zero-add _ ∙ ap (λ (b : Blocks). length b.items) (sym gives.0);
-  call_count = zero-add _ ∙ ap (λ (b : Blocks). count_by is_call b.items) (sym gives.0);
-  frame_count = zero-add _ ∙ ap (λ (b : Blocks). count_by is_present b.items) (sym gives.0);
+  call_count = zero-add _ ∙ ap (λ (b : Blocks). count_by (λ w. is_call w.content) b.items) (sym gives.0);
+  frame_count = zero-add _ ∙ ap (λ (b : Blocks). count_by (λ w. is_present w.content) b.items) (sym gives.0);
   ends = ap (λ (b : Blocks). b.end) (sym gives.0);
 }
 
@@ -68,7 +101,7 @@ split_start header all rest gives = record {
 pub split_end : (counts : Counts) (all : List ℕ) (stage : Stage) (before after : List ℕ) → IsSplit counts all (coming stage before) → Gives stage (Ok None) before after → after ≡ []
     → CountsAll (Ok counts) all after
 split_end counts all stage before after split gives none =
-    let now : IsSplit counts all (only_end Clean) = subst (IsSplit counts all) gives split in (
+    let now : IsSplit counts all (only_end clean) = subst (IsSplit counts all) gives split in (
       record { minor = now.minor; blocks = sym (add-zero _) ∙ now.block_count; calls = sym (add-zero _) ∙ now.call_count; frames = sym (add-zero _) ∙ now.frame_count },
       sym now.ends,
       none,
@@ -89,21 +122,30 @@ told_through (Some x) None c P Q R p q f = absurd p
 told_through (Some x) (Some y) None P Q R p q f = absurd q
 told_through (Some x) (Some y) (Some z) P Q R p q f = f x y z p q
 
-pub with_block-blocks : (counts : Counts) (block : Block) → (with_block counts block).blocks ≡ counts.blocks + 1
-with_block-blocks counts (Unbuilt id fields) = refl
+-- a block adds one or none
+pub with_one_if : (b : Bool) (n most : ℕ) → n ≤ most → n + one_if b ≤ most + 1
+with_one_if true n most below = omega arith
+with_one_if false n most below = omega arith
 
--- calls and frames don't outrun the blocks
-pub with_block-calls : (counts : Counts) (block : Block) → counts.calls ≤ counts.blocks → (with_block counts block).calls ≤ (with_block counts block).blocks
-with_block-calls counts (Unbuilt id fields) below = omega arith
+-- the decoder stands behind as many blocks as were counted
+abbrev pub StandsBehind : ℕ → Stage → Type 0
+StandsBehind blocks Fresh = ⊥
+StandsBehind blocks (At minor at) = at.number ≡ blocks + 1
+StandsBehind blocks (Failed why) = ⊥
 
-pub with_block-frames : (counts : Counts) (block : Block) → counts.frames ≤ counts.blocks → (with_block counts block).frames ≤ (with_block counts block).blocks
-with_block-frames counts (Unbuilt id fields) below =
-    elim (id == 48) as (λ b. counts.frames + cond b 1 0 ≤ counts.blocks + 1) [ true ↦ omega arith | false ↦ omega arith ]
+-- no more blocks were counted than a file may have
+pub few_blocks : (blocks : ℕ) (stage : Stage) (raw : Raw) → StandsBehind blocks stage → IsBlockAt stage raw → raw.number ≤ 2 ^ 33 + 1 → blocks < 2 ^ 34
+few_blocks blocks Fresh raw stands block few = absurd stands
+few_blocks blocks (At minor at) raw stands block few = omega (arith, stands, block.number, few)
+few_blocks blocks (Failed why) raw stands block few = absurd stands
 
-pub step_place : (counts : Counts) (stage new : Stage) (raw : Raw) (offset : ℕ) → stage ≡ At (counts.blocks + 1) offset → IsBlockAt stage raw → new ≡ behind raw
-    → (x : ℕ) × (new ≡ At ((with_block counts raw.block).blocks + 1) x)
-step_place counts stage new raw offset here block goes =
-    let number : counts.blocks + 1 ≡ raw.number = cc (here, block.place) in (
-      raw.offset + length raw.bytes.now,
-      goes ∙ ap (λ n. At (n + 1) (raw.offset + length raw.bytes.now)) (sym number ∙ sym (with_block-blocks counts raw.block)),
-    )
+-- each block leaves fewer to come
+pub fewer_ahead : (blocks : ℕ) (stage : Stage) (raw : Raw) → StandsBehind blocks stage → IsBlockAt stage raw → raw.number ≤ 2 ^ 33 + 1 → blocks_ahead (behind stage raw) < blocks_ahead stage
+fewer_ahead blocks Fresh raw stands block few = absurd stands
+fewer_ahead blocks (At minor at) raw stands block few = omega (arith, block.number, few)
+fewer_ahead blocks (Failed why) raw stands block few = absurd stands
+
+pub step_place : (blocks : ℕ) (stage : Stage) (raw : Raw) → StandsBehind blocks stage → StandsBehind (blocks + 1) (behind stage raw)
+step_place blocks Fresh raw stands = absurd stands
+step_place blocks (At minor at) raw stands = ap (λ n. n + 1) stands
+step_place blocks (Failed why) raw stands = absurd stands

@@ -1,4 +1,5 @@
 pub mod Counting
+pub mod Events
 pub mod Noting
 pub mod Printing
 pub mod Words

@@ -5,7 +5,7 @@ use Rattle.std.specs.Io.KnownBytes.{Appends}
 use Rattle.gfx_io.specs.Causes.{Rose}
 use Rattle.gfx_io.specs.Pieces.{AppendsPart}
 use Rattle.gfx_io.specs.Told.{IfTold}
-use Rattle.gfx_types.specs.declared.fault.Fault.{Fault}
+use Rattle.gfx_types.specs.declared.names.Fault.{Fault}
 use Rattle.gfx_cli.specs.Ends.{EndsClean, IsBadAt}
 use Rattle.gfx_cli.specs.Counts.{IsCountOf}
 use Rattle.gfx_cli.specs.Stop.{Failures}

@@ -1,8 +1,8 @@
 -- The lines that the program prints.
 use Rattle.std.specs.Prelude.{ℕ, List, [], ◌∷◌, ◌++◌, codes}
 use Rattle.std.specs.Fmt.{decimal}
-use Rattle.gfx_types.specs.Fault.{fault_number, fault_name}
-use Rattle.gfx_types.specs.declared.fault.Fault.{Fault}
+use Rattle.gfx_types.specs.Names.{fault_number, fault_name}
+use Rattle.gfx_types.specs.declared.names.Fault.{Fault}
 use Rattle.gfx_cli.specs.declared.counts.Counts.{Counts}
 
 abbrev pub line_feed : List ℕ

@@ -1,13 +1,17 @@
 // What `info` counts.
-ghost use Rattle.std.specs.Prelude.{◌≡◌, ◌<◌, ◌≤◌, ◌+◌, ◌^◌, ℕ, IfOk, IfSome, Some, string_bytes};
+ghost use Rattle.std.specs.Prelude.{◌≡◌, ◌<◌, ◌≤◌, ◌+◌, ◌^◌, ◌==◌, ℕ, IfOk, IfSome, Some, string_bytes};
 ghost use Rattle.gfx_io.specs.Causes.{Rose};
 ghost use Rattle.gfx_io.specs.Told.{IfTold};
+ghost use Rattle.gfx_blocks.specs.Payloads.{content_of};
+ghost use Rattle.gfx_model.specs.Events.{event_of, event_of_call};
+ghost use Rattle.gfx_model.specs.Blocks.{effect as in_file};
+ghost use Rattle.gfx_model.specs.Spelling.{id_of};
 ghost use Rattle.gfx_cli.specs.Text.{counts_text};
 ghost use Rattle.gfx_cli.specs.Counts.{CountsAll, with_block};
 
-use gfx_decode::{DecodeFault, Decoder};
+use gfx_decode::{DecodeFault, Decoder, Raw};
 use gfx_io::Source;
-use gfx_types::Block;
+use gfx_types::{Block, Call, Effect};
 use std::alloc::{AllocError, Global};
 
 /// How many blocks, calls and frames a file has.
@@ -19,21 +23,55 @@ pub struct Counts {
     pub frames: u64,
 }
 
-/// The call that ends a frame.
-const QUEUE_PRESENT: u32 = 48;
+/// Whether the call ends a frame.
+fn ends_frame(call: &Call<'_>) -> bool
+    ensures { result ≡ (id_of (event_of_call call.now) == 48) }
+{
+    match call {
+        Call::QueuePresentKHR { .. } => true,
+        _ => false,
+    }
+}
 
 impl Counts {
-    /// Counts one block more.
-    fn add(self, block: &Block<'_>) -> Self
-        requires { (self.blocks < 2 ^ 32) × (self.calls ≤ self.blocks) × (self.frames ≤ self.blocks) }
-        ensures { result ≡ with_block self block.now }
+    /// Counts one block more, and lets go of it.
+    fn add(self, raw: Raw<'_>) -> Self
+        requires { (self.blocks < 2 ^ 34) × (self.calls ≤ self.blocks) × (self.frames ≤ self.blocks) }
+        ensures { result ≡ with_block self (content_of raw.entry.block) }
     {
-        let Block::Unbuilt { id, .. } = block;
-        Counts {
-            blocks: self.blocks + 1,
-            calls: self.calls + 1,
-            frames: self.frames + u64::from(*id == QUEUE_PRESENT),
-            ..self
+        let Raw { block, .. } = raw;
+        self.with(&block)
+    }
+
+    /// The counts with one block more.
+    fn with(self, block: &Block<'_>) -> Self
+        requires { (self.blocks < 2 ^ 34) × (self.calls ≤ self.blocks) × (self.frames ≤ self.blocks) }
+        ensures { result ≡ with_block self (content_of block.now) }
+    {
+        match block {
+            Block::Effect { effect, .. } => self.with_effect(effect),
+            Block::Skip => Counts {
+                blocks: self.blocks + 1,
+                ..self
+            },
+        }
+    }
+
+    /// The counts with a block of this effect more.
+    fn with_effect(self, effect: &Effect<'_>) -> Self
+        requires { (self.blocks < 2 ^ 34) × (self.calls ≤ self.blocks) × (self.frames ≤ self.blocks) }
+        ensures { (thread : ℕ) → result ≡ with_block self (in_file thread (event_of effect.now)) }
+    {
+        let blocks = self.blocks + 1;
+        match effect {
+            Effect::Call(call) => Counts {
+                blocks,
+                calls: self.calls + 1,
+                frames: self.frames + u64::from(ends_frame(call)),
+                ..self
+            },
+            Effect::Meta(_) => Counts { blocks, ..self },
+            Effect::Marker { .. } => Counts { blocks, ..self },
         }
     }
 
@@ -66,8 +104,9 @@ pub fn count<S: Source>(alloc: Global, source: &mut S) -> Result<Counts, DecodeF
         calls: 0,
         frames: 0,
     };
-    while let Some(raw) = decoder.next(source)? {
-        counts = counts.add(&raw.block);
+    let mut buffer = Vec::new(alloc);
+    while let Some(raw) = decoder.next(source, &mut buffer)? {
+        counts = counts.add(raw);
     }
     Ok(counts)
 }

@@ -4,8 +4,9 @@ ghost use Rattle.std.specs.Io.KnownBytes.{Appends};
 ghost use Rattle.gfx_io.specs.Causes.{Rose};
 ghost use Rattle.gfx_io.specs.Pieces.{AppendsPart};
 ghost use Rattle.gfx_io.specs.Told.{IsTold};
-ghost use Rattle.gfx_types.specs.declared.fault.Fault.{Fault as FileFault};
-ghost use Rattle.gfx_model.specs.Blocks.{blocks_of, Clean};
+ghost use Rattle.gfx_types.specs.declared.names.Fault.{Fault as FileFault};
+ghost use Rattle.gfx_model.specs.Blocks.{clean};
+ghost use Rattle.gfx_grammar.specs.Splitting.{blocks_of};
 ghost use Rattle.gfx_cli.specs.Ends.{IsBadAt};
 ghost use Rattle.gfx_cli.specs.Run.{IsBuilt, IsNote, NotesBadBlock, PrintsCounts, PrintsCountsPart};
 ghost use Rattle.gfx_cli.specs.Stop.{IsCause};
@@ -66,7 +67,7 @@ pub fn run_files<S: Source, K: Sink, N: Sink>(
     ensures no_memory { result ≡ Status.WantMemory → notes.new ≡ notes.old }
 
     // Where the words are right, the file is whole and no count rose, it is done unless memory runs out.
-    ensures complete { IsInfo (map string_bytes words.now) → IsTold (S.left source.old) → IfSome (S.left source.old) (λ bytes. (blocks_of bytes).end ≡ Clean)
+    ensures complete { IsInfo (map string_bytes words.now) → IsTold (S.left source.old) → IfSome (S.left source.old) (λ bytes. (blocks_of bytes).end ≡ clean)
         → ¬ Rose (S.faults source.old) (S.faults source.new) → ¬ Rose (K.faults sink.old) (K.faults sink.new) → ¬ Rose (N.faults notes.old) (N.faults notes.new)
         → (result ≡ Status.Done) ⊎ (result ≡ Status.WantMemory) }
 {
@@ -101,7 +102,7 @@ fn run_command<S: Source, K: Sink>(
     ensures stops { IfErr result (IsCause (map string_bytes words.now) (S.left source.old)
         (record { before = S.faults source.old; now = S.faults source.new }) (record { before = K.faults sink.old; now = K.faults sink.new })) }
     ensures refused { ¬ IsInfo (map string_bytes words.now) → (result ≡ Err Stop.Usage) × (source.new ≡ source.old) × (sink.new ≡ sink.old) }
-    ensures clean { result ≡ Err Stop.WriteFault → IfSome (S.left source.old) (λ bytes. (blocks_of bytes).end ≡ Clean) }
+    ensures clean { result ≡ Err Stop.WriteFault → IfSome (S.left source.old) (λ bytes. (blocks_of bytes).end ≡ clean) }
     ensures front { (sink.new ≡ sink.old) ⊎ PrintsCountsPart (S.left source.old) (S.left source.new) (K.taken sink.old) (K.taken sink.new) }
     ensures nothing { IfErr result (λ stop. stop ≢ Stop.WriteFault → sink.new ≡ sink.old) }
     ensures later { (S.faults source.old ≤ S.faults source.new) × (K.faults sink.old ≤ K.faults sink.new) }

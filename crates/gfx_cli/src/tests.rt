@@ -127,17 +127,18 @@ fn a_cut_file_is_named_at_its_cut_block(rt: HostRuntime) -> Result<(), Fail> {
 }
 
 #[test]
-fn a_block_that_is_not_built_is_named(rt: HostRuntime) -> Result<(), Fail> {
-    let mut bytes = hex::decode(rt.alloc(), ONE_FRAME)?;
-    // The type of the first block, and then the number of options in the header.
-    for (place, line) in [
-        (24, b"bad block 1 at 16: 29 NotBuilt\n".as_slice()),
-        (12, b"bad block 0 at 0: 29 NotBuilt\n".as_slice()),
-        (8, b"bad block 0 at 0: 2 BadVersion\n".as_slice()),
-        (0, b"bad block 0 at 0: 1 BadMagic\n".as_slice()),
+fn the_first_broken_step_is_named(rt: HostRuntime) -> Result<(), Fail> {
+    // The id of the first call, the size of its block, and three fields of the header.
+    for (place, byte, line) in [
+        (28, 49, b"bad block 1 at 16: 7 UnknownBlock\n".as_slice()),
+        (16, 23, b"bad block 1 at 16: 8 BadParams\n".as_slice()),
+        (12, 17, b"bad block 0 at 0: 3 BadOption\n".as_slice()),
+        (8, 3, b"bad block 0 at 0: 2 BadVersion\n".as_slice()),
+        (0, 3, b"bad block 0 at 0: 1 BadMagic\n".as_slice()),
     ] {
-        if let Some(byte) = bytes.get_mut(place) {
-            *byte = 3;
+        let mut bytes = hex::decode(rt.alloc(), ONE_FRAME)?;
+        if let Some(old) = bytes.get_mut(place) {
+            *old = byte;
         }
         let ended = Outside::info(&bytes, 64).run(rt.alloc())?;
         assert_eq!(rt; ended.status, 3);

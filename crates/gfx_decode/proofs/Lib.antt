@@ -1,3 +1,4 @@
 pub mod Buffer
+pub mod Finding
 pub mod Front
 pub mod Steps

@@ -1,10 +1,12 @@
 -- What the reads of one block leave, where what the source has left is told.
-use Rattle.std.specs.Prelude.{◌≡◌, ◌≢◌, ℕ, ◌<◌, List, ◌++◌, length, IfSome, None, Some}
+use Rattle.std.specs.Prelude.{◌≡◌, ◌≢◌, ◌⊎◌, ℕ, ◌*◌, ◌<◌, nat_lt, false, List, ◌++◌, length, IfSome, None, Some}
 use Rattle.std.specs.declared.option.Option.{Option}
 use Rattle.std.specs.Io.KnownBytes.{Consumes}
-use Rattle.gfx_types.specs.declared.fault.Fault.TheVariants.{Truncated}
-use Rattle.gfx_model.specs.Blocks.{front, Whole, Breaks}
-use Rattle.gfx_model.specs.Blocks.{IsHead, header_fault, minor_of, options_of}
+use Rattle.gfx_types.specs.declared.names.Fault.{Fault}
+use Rattle.gfx_types.specs.declared.names.Fault.TheVariants.{Truncated}
+use Rattle.gfx_model.specs.Blocks.{Position, Whole, header_fault, header_length, minor_of, option_count, options_fault, refuse}
+use Rattle.gfx_grammar.specs.Framing as framing
+use Rattle.gfx_grammar.specs.Splitting.{Finds, breaks, front}
 use Rattle.gfx_blocks.specs.declared.header.Header.{Header}
 use Rattle.gfx_decode.specs.declared.fault.DecodeFault.{DecodeFault}
 use Rattle.gfx_decode.specs.declared.fault.DecodeFault.TheVariants.{Bad, ReadFault, WantMemory}
@@ -13,52 +15,70 @@ use Rattle.gfx_decode.specs.declared.fault.DecodeFault.TheVariants.{Bad, ReadFau
 abbrev pub ReadsSome : Option (List ℕ) → Option (List ℕ) → Type 0
 ReadsSome old new = (bytes : List ℕ) × Consumes old new bytes
 
--- no whole block of this number stands at the front
-abbrev pub HasNoBlock : ℕ → List ℕ → Type 0
-HasNoBlock number bytes = (n : ℕ) → front number bytes ≢ Whole n
+-- the header isn't whole
+abbrev pub IsHeaderCut : List ℕ → Type 0
+IsHeaderCut bytes = (length bytes < 16) ⊎ (length bytes < header_length bytes)
+
+-- no whole block stands at the front
+abbrev pub HasNoBlock : ℕ → Position → List ℕ → Type 0
+HasNoBlock m at bytes = (w : Whole) → front m at bytes ≢ Finds w
 
 -- why no header came: it breaks a step, or it isn't whole in the bytes that were read
 abbrev pub StopsInHeader : Option (List ℕ) → Option (List ℕ) → DecodeFault → Type 0
-StopsInHeader old new (Bad fault block at) = (block ≡ 0) × (at ≡ 0) × IfSome old (λ bytes. header_fault bytes ≡ Some fault)
-StopsInHeader old new ReadFault = (bytes : List ℕ) × Consumes old new bytes × (length bytes < 16)
-StopsInHeader old new WantMemory = Unit {0}
+StopsInHeader old new (Bad fault block offset) = (block ≡ 0) × (offset ≡ 0) × IfSome old (λ bytes. header_fault bytes ≡ Some fault)
+StopsInHeader old new ReadFault = (bytes : List ℕ) × Consumes old new bytes × IsHeaderCut bytes
+StopsInHeader old new WantMemory = ⊥
 
--- why no block of this number came, at this offset
-abbrev pub StopsAt : ℕ → ℕ → Option (List ℕ) → Option (List ℕ) → DecodeFault → Type 0
+-- why no options came, so many of them, behind the start of a header
+abbrev pub StopsInOptions : ℕ → Option (List ℕ) → Option (List ℕ) → DecodeFault → Type 0
+StopsInOptions count old new (Bad fault block offset) =
+    (block ≡ 0) × (offset ≡ 0) × IfSome old (λ rest. refuse (nat_lt (length rest) (8 * count)) Truncated (options_fault rest 0 0 count) ≡ Some fault)
+StopsInOptions count old new ReadFault = (part : List ℕ) × Consumes old new part × (length part < 8 * count)
+StopsInOptions count old new WantMemory = ⊥
+
+-- why no block came here, in a file of minor version m
+abbrev pub StopsAt : ℕ → Position → Option (List ℕ) → Option (List ℕ) → DecodeFault → Type 0
 -- the block breaks a step
-StopsAt number offset old new (Bad fault block at) =
-    (block ≡ number) × (at ≡ offset) × IfSome old (λ bytes. front number bytes ≡ Breaks fault)
+StopsAt m at old new (Bad fault block offset) =
+    (block ≡ at.number) × (offset ≡ at.offset) × IfSome old (λ bytes. front m at bytes ≡ breaks at fault)
 -- it isn't whole in the bytes that were read
-StopsAt number offset old new ReadFault = (bytes : List ℕ) × Consumes old new bytes × HasNoBlock number bytes
-StopsAt number offset old new WantMemory = Unit {0}
+StopsAt m at old new ReadFault = (bytes : List ℕ) × Consumes old new bytes × HasNoBlock m at bytes
+StopsAt m at old new WantMemory = Unit {0}
 
--- the same once the block's head was read: its payload has this size
-abbrev pub StopsInPayload : ℕ → ℕ → ℕ → Option (List ℕ) → Option (List ℕ) → DecodeFault → Type 0
-StopsInPayload size number offset old new (Bad fault block at) =
-    (block ≡ number) × (at ≡ offset) × (fault ≡ Truncated) × IfSome old (λ rest. length rest < size)
-StopsInPayload size number offset old new ReadFault = (part : List ℕ) × Consumes old new part × (length part < size)
-StopsInPayload size number offset old new WantMemory = Unit {0}
+-- the first step that a block with a payload that is cut short breaks: it counts outside the section that it may begin
+abbrev pub IsCutFault : Position → Fault → Type 0
+IsCutFault at fault = (framing.count_fault at false ≡ Some fault) ⊎ ((framing.count_fault at false ≡ None) × (fault ≡ Truncated))
+
+-- why no payload of this size came
+abbrev pub StopsInPayload : ℕ → Position → Option (List ℕ) → Option (List ℕ) → DecodeFault → Type 0
+StopsInPayload size at old new (Bad fault block offset) =
+    (block ≡ at.number) × (offset ≡ at.offset) × IsCutFault at fault × IfSome old (λ rest. length rest < size)
+StopsInPayload size at old new ReadFault = (part : List ℕ) × Consumes old new part × (length part < size)
+StopsInPayload size at old new WantMemory = Unit {0}
 
 -- why fewer bytes came than were asked for
 abbrev pub StopsShort : ℕ → Option (List ℕ) → Option (List ℕ) → DecodeFault → Type 0
-StopsShort most old new (Bad fault block at) = ⊥
+StopsShort most old new (Bad fault block offset) = ⊥
 StopsShort most old new ReadFault = (part : List ℕ) × Consumes old new part × (length part < most)
 StopsShort most old new WantMemory = Unit {0}
 
--- the same once the block's bytes were read, whatever follows them
-abbrev pub StopsInBytes : ℕ → ℕ → List ℕ → DecodeFault → Type 0
-StopsInBytes number offset bytes (Bad fault block at) =
-    (block ≡ number) × (at ≡ offset) × ((rest : List ℕ) → front number (bytes ++ rest) ≡ Breaks fault)
-StopsInBytes number offset bytes ReadFault = ⊥
-StopsInBytes number offset bytes WantMemory = Unit {0}
+-- why the bytes of a block give none, whatever follows them
+abbrev pub StopsInBytes : ℕ → Position → List ℕ → DecodeFault → Type 0
+StopsInBytes m at bytes (Bad fault block offset) =
+    (block ≡ at.number) × (offset ≡ at.offset) × ((rest : List ℕ) → front m at (bytes ++ rest) ≡ breaks at fault)
+StopsInBytes m at bytes ReadFault = ⊥
+StopsInBytes m at bytes WantMemory = Unit {0}
 
 -- the bytes are a block's head in order, and a payload of the size that it says
-abbrev pub IsFramed : ℕ → ℕ → List ℕ → Type 0
-IsFramed number size bytes = (head : List ℕ) × (payload : List ℕ) × (bytes ≡ head ++ payload) × IsHead number size head × (length payload ≡ size)
+pub record IsFramed (kind size : ℕ) (bytes : List ℕ) : Type 0 where
+  pub head : List ℕ
+  pub payload : List ℕ
+  pub parts : bytes ≡ head ++ payload
+  pub good : framing.IsHead kind size head
+  pub long : length payload ≡ size
 
 -- the bytes are a header in order, which says this
 pub record IsHeader (header : Header) (bytes : List ℕ) : Type 0 where
-  pub long : length bytes ≡ 16
-  pub good : header_fault bytes ≡ None
+  pub good : framing.IsHeader bytes
   pub minor : header.minor ≡ minor_of bytes
-  pub options : header.options ≡ options_of bytes
+  pub options : header.options ≡ option_count bytes

@@ -1,20 +1,23 @@
 // A decoder, by the place of its next block.
-ghost use Rattle.std.specs.Prelude.{◌≡◌, ◌≢◌, ◌+◌, ◌≤◌, ℕ, List, [], length, drop, ⊤, IfOk, IfErr, IfSome, OnErr, None, Some};
+ghost use Rattle.std.specs.Prelude.{◌≡◌, ◌≢◌, ◌+◌, ◌^◌, ◌≤◌, ℕ, List, IfOk, IfErr, IfSome, None, Some};
 ghost use Rattle.std.specs.Io.KnownBytes.{Consumes, IsAtEnd};
 ghost use Rattle.gfx_io.specs.Causes.{Rose};
 ghost use Rattle.gfx_io.specs.Told.{IfTold};
-ghost use Rattle.gfx_model.specs.Blocks.{header_fault};
+ghost use Rattle.gfx_model.specs.Blocks as blocks;
 
 use crate::DecodeFault;
-use crate::reading::{block_in, fetch, read_front};
+use crate::blocks::{block_in, place_behind};
+use crate::places::first_position;
+use crate::position::Position;
+use crate::reading::{fetch, read_front};
 use gfx_blocks::Header;
 use gfx_io::Source;
 use gfx_types::Block;
 use std::alloc::Global;
 use std::marker::Model;
 
-/// A block with its exact bytes, and its place in the file.
-#[derive(Clone, Copy, Debug)]
+/// A block with its exact bytes, and its place in the file: its number from 1 on, and its offset in bytes.
+#[derive(Debug, Drop)]
 pub struct Raw<'a> {
     pub block: Block<'a>,
     pub bytes: &'a [u8],
@@ -22,52 +25,51 @@ pub struct Raw<'a> {
     pub offset: u64,
 }
 
-/// How far a decoder is: before the header, before a block, or at a fault, which it answers from then on.
+/// How far a decoder is: before the header, before a block of a file in a minor version, or at a fault, which it
+/// answers from then on.
 #[derive(Clone, Copy, Debug, PartialEq, Eq)]
-pub enum Stage {
+pub enum State {
     Fresh,
-    At { number: u64, offset: u64 },
+    At { minor: u32, at: Position },
     Failed(DecodeFault),
 }
 
-/// Reads the blocks of a capture file. It keeps one block at a time.
+/// Reads the blocks of a capture file, one at a time, each into a buffer of the caller's.
 #[derive(Drop)]
 pub struct Decoder {
-    stage: Stage,
-    buffer: Vec<u8>,
+    alloc: Global,
+    state: State,
 }
 
 impl Model for Decoder {
-    ghost use Rattle.gfx_decode.specs.declared.decoder.Stage.{Stage};
-    ghost use Rattle.gfx_decode.specs.Stage.{IsReachable};
+    ghost use Rattle.gfx_decode.specs.Reachable.{IsReachable};
+    ghost use Rattle.gfx_decode.specs.Stage.{Stage, stage_of};
 
     ghost Value = { Stage };
 
-    ghost view = { λ d. d.stage };
+    ghost view = { λ d. stage_of d.state };
 
-    ghost invariant = { λ d. IsReachable d.stage };
+    ghost invariant = { λ d. IsReachable (stage_of d.state) };
 }
 
 impl Decoder {
-    ghost use Rattle.std.specs.Borrow.{sem};
-    ghost use denote.Follow.{follows_so};
-    ghost use mathlib.Core.Option.{none};
-    ghost use Rattle.gfx_decode.specs.contracts.decoder.Decoder.{the_row};
-    ghost use Rattle.gfx_decode.specs.Reading.{IsHeader, ReadsSome, StopsAt, StopsInHeader};
     ghost use Rattle.gfx_decode.specs.Decoding.{Gives, GivesHeader, Goes, IsBlockAt, stage_after};
+    ghost use Rattle.gfx_decode.specs.Reading.{IsHeader, ReadsSome, StopsAt, StopsInHeader};
+    ghost use Rattle.gfx_decode.specs.Stage.{Fresh, At, Failed};
 
+    /// A decoder before its header. Lists of calls will take memory of this allocator.
     pub fn new(alloc: Global) -> Self
-        ensures { result ≡ Stage.Fresh }
+        ensures { result ≡ Fresh }
     {
         Decoder {
-            stage: Stage::Fresh,
-            buffer: Vec::new(alloc),
+            alloc,
+            state: State::Fresh,
         }
     }
 
     /// Reads the header. It is called once, before the first block.
     pub fn header<S: Source>(&mut self, source: &mut S) -> Result<Header, DecodeFault>
-        requires { self.old ≡ Stage.Fresh }
+        requires { self.old ≡ Fresh }
         ensures gives { IfTold (S.left source.old) (S.left source.new) (GivesHeader result) }
         ensures bytes { IfOk result (λ header. (bytes : List ℕ) × IsHeader header bytes × Consumes (S.left source.old) (S.left source.new) bytes) }
         ensures fault { IfErr result (StopsInHeader (S.left source.old) (S.left source.new)) }
@@ -78,26 +80,34 @@ impl Decoder {
     {
         match read_front(source) {
             Ok(header) => {
-                self.stage = Stage::At {
-                    number: 1,
-                    offset: 16,
+                self.state = State::At {
+                    minor: header.minor,
+                    at: first_position(header),
                 };
                 Ok(header)
             }
-            Err(fault) => {
-                self.stage = Stage::Failed(fault);
-                Err(fault)
+            Err(why) => {
+                self.state = State::Failed(why);
+                Err(why)
             }
         }
     }
 
-    /// The next block, or the end of the file. After a fault it answers the same again, and reads nothing.
-    pub fn next<S: Source>(&mut self, source: &mut S) -> Result<Option<Raw<'_>>, DecodeFault>
-        requires { self.old ≢ Stage.Fresh }
+    /// The next block, lent from the buffer, or the end of the file. After a fault it answers the same again, and
+    /// reads nothing. What the buffer held is lost.
+    pub fn next<'b, S: Source>(
+        &mut self,
+        source: &mut S,
+        buffer: &'b mut Vec<u8>,
+    ) -> Result<Option<Raw<'b>>, DecodeFault>
+        requires { self.old ≢ Fresh }
 
         // The answer is the first of the blocks that are left, or their end.
         ensures gives { IfTold (S.left source.old) (S.left source.new) (Gives self.old result) }
         ensures block { IfOk result (λ found. IfSome found (IsBlockAt self.old)) }
+
+        // A file has at most 2^32 blocks on each side of its state section, so the blocks come to an end.
+        ensures few { IfOk result (λ found. IfSome found (λ raw. raw.number ≤ 2 ^ 33 + 1)) }
 
         // Just the bytes of the block were read, and at a fault some of those that were left.
         ensures reads { ReadsSome (S.left source.old) (S.left source.new) }
@@ -105,46 +115,50 @@ impl Decoder {
         ensures end { result ≡ Ok None → IsAtEnd (S.left source.old) × IsAtEnd (S.left source.new) }
 
         // A fault that comes now is the one of this block, and one from before stays.
-        ensures fault { (number offset : ℕ) → self.old ≡ Stage.At number offset
-            → IfErr result (StopsAt number offset (S.left source.old) (S.left source.new)) }
-        ensures stays { (fault : DecodeFault) → self.old ≡ Stage.Failed fault
-            → (result ≡ Err fault) × (source.new ≡ source.old) }
+        ensures fault { (minor : ℕ) → (at : blocks.Position) → self.old ≡ At minor at
+            → IfErr result (StopsAt minor at (S.left source.old) (S.left source.new)) }
+        ensures stays { (why : DecodeFault) → self.old ≡ Failed why
+            → (result ≡ Err why) × (source.new ≡ source.old) }
         ensures later { S.faults source.old ≤ S.faults source.new }
-        ensures cause { result ≡ Err DecodeFault.ReadFault → self.old ≢ Stage.Failed DecodeFault.ReadFault
+        ensures cause { result ≡ Err DecodeFault.ReadFault → self.old ≢ Failed DecodeFault.ReadFault
             → Rose (S.faults source.old) (S.faults source.new) }
 
         // It stands behind the block afterwards, or has failed from then on.
-        ensures* after { sem 𝓛 (follows_so the_row the_row self.entry.ghost_name none (λ _ _. ⊤) (Goes self.old result)) }
+        ensures after { Goes self.old result self.new }
     {
-        let (number, offset) = match self.stage {
-            Stage::At { number, offset } => (number, offset),
-            Stage::Failed(fault) => return Err(fault),
-            Stage::Fresh => unreachable!(),
+        let (minor, at) = match self.state {
+            State::At { minor, at } => (minor, at),
+            State::Failed(why) => return Err(why),
+            State::Fresh => unreachable!(),
         };
-        let framing = match fetch(source, number, offset, &mut self.buffer) {
+        let framing = match fetch(source, at, buffer) {
             Ok(Some(framing)) => framing,
             Ok(None) => return Ok(None),
-            Err(fault) => {
-                self.stage = Stage::Failed(fault);
-                return Err(fault);
+            Err(why) => {
+                self.state = State::Failed(why);
+                return Err(why);
             }
         };
-        match block_in(framing, &self.buffer, number, offset) {
+        let next = match place_behind(at, framing, buffer) {
+            Ok(next) => next,
+            Err(why) => {
+                self.state = State::Failed(why);
+                return Err(why);
+            }
+        };
+        match block_in(self.alloc, minor, at, framing, buffer) {
             Ok(block) => {
-                self.stage = Stage::At {
-                    number: number + 1,
-                    offset: offset + self.buffer.len() as u64,
-                };
+                self.state = State::At { minor, at: next };
                 Ok(Some(Raw {
                     block,
-                    bytes: &self.buffer,
-                    number,
-                    offset,
+                    bytes: buffer,
+                    number: at.number,
+                    offset: at.offset,
                 }))
             }
-            Err(fault) => {
-                self.stage = Stage::Failed(fault);
-                Err(fault)
+            Err(why) => {
+                self.state = State::Failed(why);
+                Err(why)
             }
         }
     }

@@ -1,23 +1,26 @@
-// The two reads of a block: its size and type, and its payload.
-ghost use Rattle.std.specs.Prelude.{◌≡◌, ◌<◌, ◌≤◌, ◌+◌, ◌^◌, ℕ, List, [], ◌++◌, length, drop, vec_len, IfOk, OnOk, IfSome, IfErr, None, Some};
+// The reads of a file: its header, the size and type of a block, and its payload.
+ghost use Rattle.std.specs.Prelude.{◌≡◌, ◌<◌, ◌≤◌, ◌+◌, ◌*◌, ◌^◌, ℕ, List, [], ◌++◌, length, vec_len, IfOk, OnOk, IfSome, IfErr, None, Some};
 ghost use Rattle.std.specs.Io.KnownBytes.{Consumes, IsAtEnd};
 ghost use Rattle.gfx_io.specs.Causes.{Rose};
-ghost use Rattle.gfx_model.specs.Blocks.{IsHead, front, Whole};
-ghost use Rattle.gfx_model.specs.Spelling.{IsSpelled};
-ghost use Rattle.gfx_decode.specs.Reading.{IsFramed, IsHeader, StopsInHeader, ReadsSome, StopsAt, StopsInBytes, StopsInPayload, StopsShort};
+ghost use Rattle.gfx_model.specs.Blocks.{options_fault};
+ghost use Rattle.gfx_grammar.specs.Framing.{IsHead};
+ghost use Rattle.gfx_decode.specs.Position.{position_of};
+ghost use Rattle.gfx_decode.specs.Reading.{IsCutFault, IsFramed, IsHeader, ReadsSome, StopsAt, StopsInHeader, StopsInOptions, StopsInPayload, StopsShort};
 
 use crate::DecodeFault;
-use gfx_blocks::{BlockFault, Framing, Header, read_frame, read_header, read_payload};
+use crate::places::is_full;
+use crate::position::Position;
+use gfx_blocks::{Framing, Header, read_frame, read_start};
 use gfx_io::{Source, fill};
-use gfx_types::{Block, Fault};
-
-/// How many blocks are built.
-const MAX_BLOCKS: u64 = 1 << 32;
+use gfx_types::Fault;
 
 /// How many bytes of a payload are asked for at once, so that a large size over a short file takes no memory.
 const PIECE: usize = 1 << 16;
 
-/// Reads the header.
+/// The most bytes that the options of a header have.
+const MOST_OPTIONS: usize = 8 * 16;
+
+/// Reads the header with its options.
 pub fn read_front<S: Source>(source: &mut S) -> Result<Header, DecodeFault>
     ensures good { IfOk result (λ header. (bytes : List ℕ) × IsHeader header bytes × Consumes (S.left source.old) (S.left source.new) bytes) }
     ensures fault { IfErr result (StopsInHeader (S.left source.old) (S.left source.new)) }
@@ -25,25 +28,50 @@ pub fn read_front<S: Source>(source: &mut S) -> Result<Header, DecodeFault>
     ensures later { S.faults source.old ≤ S.faults source.new }
     ensures cause { result ≡ Err DecodeFault.ReadFault → Rose (S.faults source.old) (S.faults source.new) }
 {
-    let mut front = [0; 16];
-    let count = fill(source, &mut front)?;
-    match read_header(&front[..count]) {
-        Ok(header) => Ok(header),
+    let mut start = [0; 16];
+    if fill(source, &mut start)? < start.len() {
+        return Err(DecodeFault::bad(Fault::Truncated, 0, 0));
+    }
+    match read_start(&start) {
+        Ok(header) => read_options(source, header, &mut [0; MOST_OPTIONS]),
         Err(fault) => Err(DecodeFault::bad(fault, 0, 0)),
     }
 }
 
-/// Reads the size and type of the block of this number, or finds the end of the input.
+/// Reads the options behind the start of a header.
+fn read_options<S: Source>(
+    source: &mut S,
+    header: Header,
+    room: &mut [u8; MOST_OPTIONS],
+) -> Result<Header, DecodeFault>
+    requires { header.options ≤ 16 }
+    ensures good { IfOk result (λ read. (read ≡ header) × ((options : List ℕ) × (length options ≡ 8 * header.options)
+        × (options_fault options 0 0 header.options ≡ None) × Consumes (S.left source.old) (S.left source.new) options)) }
+    ensures fault { IfErr result (StopsInOptions header.options (S.left source.old) (S.left source.new)) }
+    ensures reads { ReadsSome (S.left source.old) (S.left source.new) }
+    ensures later { S.faults source.old ≤ S.faults source.new }
+    ensures cause { result ≡ Err DecodeFault.ReadFault → Rose (S.faults source.old) (S.faults source.new) }
+{
+    let options = &mut room[..8 * header.options as usize];
+    if fill(source, options)? < options.len() {
+        return Err(DecodeFault::bad(Fault::Truncated, 0, 0));
+    }
+    match gfx_blocks::options_fault(options, 0, header.options) {
+        None => Ok(header),
+        Some(fault) => Err(DecodeFault::bad(fault, 0, 0)),
+    }
+}
+
+/// Reads the size and type of the block here, or finds the end of the input.
 pub fn read_head<S: Source>(
     source: &mut S,
-    number: u64,
-    offset: u64,
+    at: Position,
     head: &mut [u8; 12],
 ) -> Result<Option<Framing>, DecodeFault>
-    ensures some { IfOk result (λ found. IfSome found (λ framing. IsHead number framing.size head.new
+    ensures some { IfOk result (λ found. IfSome found (λ framing. IsHead framing.kind framing.size head.new
         × Consumes (S.left source.old) (S.left source.new) head.new)) }
     ensures none { result ≡ Ok None → IsAtEnd (S.left source.new) × Consumes (S.left source.old) (S.left source.new) [] }
-    ensures fault { IfErr result (StopsAt number offset (S.left source.old) (S.left source.new)) }
+    ensures fault { (m : ℕ) → IfErr result (StopsAt m (position_of at) (S.left source.old) (S.left source.new)) }
     ensures reads { ReadsSome (S.left source.old) (S.left source.new) }
     ensures later { S.faults source.old ≤ S.faults source.new }
     ensures cause { result ≡ Err DecodeFault.ReadFault → Rose (S.faults source.old) (S.faults source.new) }
@@ -53,42 +81,50 @@ pub fn read_head<S: Source>(
         return Ok(None);
     }
     if count < head.len() {
-        return Err(DecodeFault::bad(Fault::Truncated, number, offset));
+        return Err(DecodeFault::bad(Fault::Truncated, at.number, at.offset));
     }
     match read_frame(head) {
-        Ok(framing) if number <= MAX_BLOCKS => Ok(Some(framing)),
-        Ok(_) => Err(DecodeFault::bad(Fault::NotBuilt, number, offset)),
-        Err(fault) => Err(DecodeFault::bad(fault, number, offset)),
+        Ok(framing) => Ok(Some(framing)),
+        Err(fault) => Err(DecodeFault::bad(fault, at.number, at.offset)),
     }
 }
 
 /// Reads the payload behind a block's head, and leaves both in the buffer, which grows with what comes.
 pub fn read_rest<S: Source>(
     source: &mut S,
-    number: u64,
-    offset: u64,
+    at: Position,
+    framing: Framing,
     head: &[u8; 12],
-    size: u64,
     buffer: &mut Vec<u8>,
 ) -> Result<(), DecodeFault>
-    requires { IsHead number size head.now }
-    ensures whole { OnOk result ((payload : List ℕ) × (buffer.new.items ≡ head.now ++ payload) × (length payload ≡ size)
+    requires { IsHead framing.kind framing.size head.now }
+    ensures whole { OnOk result ((payload : List ℕ) × (buffer.new.items ≡ head.now ++ payload) × (length payload ≡ framing.size)
         × Consumes (S.left source.old) (S.left source.new) payload) }
-    ensures fault { IfErr result (StopsInPayload size number offset (S.left source.old) (S.left source.new)) }
+    ensures fault { IfErr result (StopsInPayload framing.size (position_of at) (S.left source.old) (S.left source.new)) }
     ensures reads { ReadsSome (S.left source.old) (S.left source.new) }
     ensures later { S.faults source.old ≤ S.faults source.new }
     ensures cause { result ≡ Err DecodeFault.ReadFault → Rose (S.faults source.old) (S.faults source.new) }
 {
     buffer.clear();
     buffer.extend_from_slice(head)?;
-    let end = head.len() + size as usize;
+    let end = head.len() + framing.size as usize;
     'pieces: while buffer.len() < end {
         let most = PIECE.min(end - buffer.len());
         if read_piece(source, most, buffer)? < most {
-            return Err(DecodeFault::bad(Fault::Truncated, number, offset));
+            return Err(DecodeFault::bad(cut_fault(at), at.number, at.offset));
         }
     }
     Ok(())
+}
+
+/// The first step that a block with a payload that is cut short breaks. It begins no section.
+fn cut_fault(at: Position) -> Fault
+    ensures { IsCutFault (position_of at) result }
+{
+    if is_full(at, false) {
+        return Fault::TooManyBlocks;
+    }
+    Fault::Truncated
 }
 
 /// Reads the next bytes onto the end of the buffer, fewer than `most` only where the input ends.
@@ -113,46 +149,26 @@ fn read_piece<S: Source>(
     Ok(count)
 }
 
-/// Reads the next block into the buffer, all but its payload checked, or finds the end of the input.
+/// Reads the next block into the buffer, all but its count and its payload checked, or finds the end of the input.
 pub fn fetch<S: Source>(
     source: &mut S,
-    number: u64,
-    offset: u64,
+    at: Position,
     buffer: &mut Vec<u8>,
 ) -> Result<Option<Framing>, DecodeFault>
-    ensures some { IfOk result (λ found. IfSome found (λ framing. IsFramed number framing.size buffer.new.items
+    ensures some { IfOk result (λ found. IfSome found (λ framing. IsFramed framing.kind framing.size buffer.new.items
         × Consumes (S.left source.old) (S.left source.new) buffer.new.items)) }
     ensures none { result ≡ Ok None → IsAtEnd (S.left source.new) × Consumes (S.left source.old) (S.left source.new) [] }
-    ensures fault { IfErr result (StopsAt number offset (S.left source.old) (S.left source.new)) }
+    ensures fault { (m : ℕ) → IfErr result (StopsAt m (position_of at) (S.left source.old) (S.left source.new)) }
     ensures reads { ReadsSome (S.left source.old) (S.left source.new) }
     ensures later { S.faults source.old ≤ S.faults source.new }
     ensures cause { result ≡ Err DecodeFault.ReadFault → Rose (S.faults source.old) (S.faults source.new) }
 {
     let mut head = [0; 12];
-    match read_head(source, number, offset, &mut head)? {
+    match read_head(source, at, &mut head)? {
         Some(framing) => {
-            read_rest(source, number, offset, &head, framing.size, buffer)?;
+            read_rest(source, at, framing, &head, buffer)?;
             Ok(Some(framing))
         }
         None => Ok(None),
-    }
-}
-
-/// The block that the buffer holds, or the step that its payload breaks.
-pub fn block_in(
-    framing: Framing,
-    buffer: &[u8],
-    number: u64,
-    offset: u64,
-) -> Result<Block<'_>, DecodeFault>
-    requires { IsFramed number framing.size buffer.now }
-    ensures whole { OnOk result (front number buffer.now ≡ Whole (length buffer.now)) }
-    ensures spelled { IfOk result (λ block. IsSpelled block (drop 12 buffer.now)) }
-    ensures fault { IfErr result (StopsInBytes number offset buffer.now) }
-{
-    match read_payload(framing, &buffer[12..]) {
-        Ok(block) => Ok(block),
-        Err(BlockFault::Bad(fault)) => Err(DecodeFault::bad(fault, number, offset)),
-        Err(BlockFault::WantMemory) => Err(DecodeFault::WantMemory),
     }
 }

@@ -1,0 +1,16 @@
+use Rattle.std.proofs.Common.{◌≡◌, ◌*◌, length, arith, refl, sym, ◌∙◌, subst, take_all, length-take}
+use Rattle.std.specs.Io.KnownBytes.{Consumes}
+use Rattle.gfx_decode.proofs.Front.{options_break}
+use Rattle.gfx_decode.proofs.reading.read_options.Goals as goal
+
+pub returns-in-Some-clause-fault : goal.returns-in-Some-clause-fault
+returns-in-Some-clause-fault g c =
+    let all = c.fill.new.into in
+    let long : length all ≡ 8 * c.args.header.options = omega (arith, c.fill.auto.into, c.requires, c.fits-room, length-take (8 * c.args.header.options) c.args.room.now) in
+    rw c.bad-in-Some.ensures (
+      refl,
+      refl,
+      options_break c.args.header.options _ _ all c.in-Some.fault
+          (subst (Consumes _ _) (take_all c.in_ok-fill.field-0 all (omega (arith, c.fill.auto.into))) c.in_ok-fill.ensures.bytes)
+          long (sym c.options_fault.ensures ∙ c.in-Some.is),
+    )

@@ -1,0 +1,5 @@
+use Rattle.gfx_grammar.specs.BlockLaws.{blocks_are_computed}
+use Rattle.gfx_grammar.proofs.blocks_are_computed.Goals as goal
+
+pub returns : goal.returns
+returns c = blocks_are_computed

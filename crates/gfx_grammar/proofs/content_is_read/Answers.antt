@@ -1,0 +1,5 @@
+use Rattle.gfx_grammar.specs.ContentLaws.{content_is_read}
+use Rattle.gfx_grammar.proofs.content_is_read.Goals as goal
+
+pub returns : goal.returns
+returns c = content_is_read

@@ -1,0 +1,5 @@
+use Rattle.gfx_grammar.specs.FrontLaws.{front-with_payload}
+use Rattle.gfx_grammar.proofs.payload_decides.Goals as goal
+
+pub returns : goal.returns
+returns c = front-with_payload

@@ -1,0 +1,5 @@
+use Rattle.gfx_grammar.specs.ContentLaws.{read_is_content}
+use Rattle.gfx_grammar.proofs.read_is_content.Goals as goal
+
+pub returns : goal.returns
+returns c = read_is_content

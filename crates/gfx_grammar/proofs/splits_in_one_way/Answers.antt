@@ -1,0 +1,5 @@
+use Rattle.gfx_grammar.specs.SplitLaws.{splits_in_one_way}
+use Rattle.gfx_grammar.proofs.splits_in_one_way.Goals as goal
+
+pub returns : goal.returns
+returns c = splits_in_one_way
