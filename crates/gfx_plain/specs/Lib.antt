@@ -1,0 +1,5 @@
+pub mod Position
+pub mod Steps
+pub mod Answers
+pub mod Turns
+pub mod Checks

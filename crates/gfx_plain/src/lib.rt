@@ -1,0 +1,42 @@
+//! Slow functions that compute the definitions, for tests: the framing of a file, what is asked of a list of steps,
+//! and the faults of the check table. No program calls them.
+#![tactic(auto)]
+
+mod answers;
+mod broken;
+mod buffers;
+mod checks;
+mod commands;
+mod framing;
+mod header;
+mod ids;
+mod items;
+mod number;
+mod questions;
+pub mod rows_lists;
+pub mod rows_objects;
+pub mod rows_others;
+pub mod rows_queue;
+mod steps;
+mod turns;
+mod values;
+mod view;
+mod windows;
+
+pub use answers::{Binding, Object, Range, State};
+pub use broken::{fault_of, first_broken};
+pub use checks::{Check, Earlier};
+pub use framing::{Position, framing_fault, is_marker, is_skipped, is_unknown, next_position};
+pub use header::{header_fault, header_length, minor_of};
+pub use ids::{Seen, live_ids};
+pub use number::{u32_at, u64_at};
+pub use questions::{
+    acquired, bound, layout, live, mapped, next_frame, open_section, signalled, used,
+};
+pub use steps::{Change, Command, Detail, Step, Steps};
+pub use turns::{Turn, in_turn};
+
+#[cfg(test)]
+mod row_tests;
+#[cfg(test)]
+mod tests;
