@@ -1,0 +1,6 @@
+use Rattle.std.proofs.lemmas.Result.{on_ok_weaker}
+use Rattle.gfx_device.proofs.Copies.{changed_slot}
+use Rattle.gfx_device.proofs.device.Device.copy_within.Goals as goal
+
+pub returns-clause-ok : goal.returns-clause-ok
+returns-clause-ok c = on_ok_weaker c.move_rows.result (changed_slot c.args.self.now.places c.args.place _ _ _ c.index_mut-bytes.ensures.value) c.move_rows.ensures.ok

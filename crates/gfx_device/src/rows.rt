@@ -1,0 +1,48 @@
+// The rows of a copy.
+ghost use Rattle.std.specs.Prelude.{◌≡◌, length, OnOk};
+ghost use Rattle.gfx_device.specs.Rows.{copied, AreWithin};
+
+use gfx_pages::{Bytes, WantMemory};
+
+// Rows of `length` bytes, the first at the two offsets and each next one step further.
+#[derive(Clone, Copy)]
+pub struct Rows {
+    pub to_offset: u64,
+    pub to_step: u64,
+    pub from_offset: u64,
+    pub from_step: u64,
+    pub length: u64,
+    pub rows: u64,
+}
+
+// Copies rows of other bytes, in order.
+pub fn copy_rows(target: &mut Bytes, source: &Bytes, copy: Rows) -> Result<(), WantMemory>
+    requires to { AreWithin (length target.old) copy.to_offset copy.to_step copy.length copy.rows }
+    requires from { AreWithin (length source.now) copy.from_offset copy.from_step copy.length copy.rows }
+    ensures ok { OnOk result (target.new ≡ copied copy (λ _. source.now) copy.rows target.old) }
+    ensures same_length { length target.new ≡ length target.old }
+{
+    let _lengths = (target.length(), source.length());
+    for row in 0..copy.rows {
+        let to = copy.to_offset + row * copy.to_step;
+        let from = copy.from_offset + row * copy.from_step;
+        target.copy_from(to, source, from, copy.length)?;
+    }
+    Ok(())
+}
+
+// Copies rows of the same bytes, in order: a row may have what an earlier one wrote.
+pub fn move_rows(bytes: &mut Bytes, copy: Rows) -> Result<(), WantMemory>
+    requires to { AreWithin (length bytes.old) copy.to_offset copy.to_step copy.length copy.rows }
+    requires from { AreWithin (length bytes.old) copy.from_offset copy.from_step copy.length copy.rows }
+    ensures ok { OnOk result (bytes.new ≡ copied copy (λ here. here) copy.rows bytes.old) }
+    ensures same_length { length bytes.new ≡ length bytes.old }
+{
+    let _length = bytes.length();
+    for row in 0..copy.rows {
+        let to = copy.to_offset + row * copy.to_step;
+        let from = copy.from_offset + row * copy.from_step;
+        bytes.copy_within(to, from, copy.length)?;
+    }
+    Ok(())
+}

@@ -1,0 +1,4 @@
+pub mod Fills
+pub mod Lists
+pub mod Page
+pub mod Used
