@@ -1,0 +1,44 @@
+use Rattle.std.proofs.Common.{◌≤◌, ◌+◌, ◌-◌, ◌<◌, ◌^◌, ap, ◌∙◌, arith}
+use Rattle.std.specs.FinMap as map
+use Rattle.gfx_table.specs.Used.{holds}
+use Rattle.gfx_model.specs.Views.{detail_bytes}
+use Rattle.gfx_objects.specs.Object.{detail_of}
+use Rattle.gfx_objects.specs.Objects.{bytes_in}
+use Rattle.gfx_objects.specs.Inside.{kept_of}
+use Rattle.gfx_objects.specs.Kinds.{ids_of}
+use Rattle.gfx_objects.specs.Children.{count_of}
+use Rattle.gfx_objects.proofs.Asked.{children_few}
+use Rattle.gfx_objects.proofs.Kept.{unused_fresh, sound_created, indexed_created}
+use Rattle.gfx_objects.proofs.objects.Objects.add.Goals as goal
+
+pub add-requires-clause-few : goal.add-requires-clause-few
+add-requires-clause-few c =
+    let is = c.self.invariant.indexed.by_parent c.args.object.parent in
+    let few = children_few (kept_of c.self.inside) c.args.object.parent in
+    let all = c.self.invariant.sound.few in
+    omega (arith, is, few, all)
+
+pub invariant_of-self : goal.invariant_of-self
+invariant_of-self c =
+    let s = c.self.inside in
+    let o = c.args.object in
+    let room = c.self.invariant.has_room in
+    let one = c.requires.spare in
+    let here = ap (λ k. k.spare) c.self.view_is in
+    let unused = ap (λ k. holds k.used o.id) c.self.view_is ∙ c.requires.unused in
+    let none = unused_fresh (kept_of s) c.self.invariant.sound o.id unused in
+    let few : map.len s.rows.map < 65536 = let a = ap (λ k. map.len k.rows) c.self.view_is in let b = c.requires.few in omega (arith, a, b) in
+    let small : bytes_in s.rows.map + detail_bytes (detail_of o.detail) ≤ 2 ^ 28 = let a = ap (λ k. bytes_in k.rows) c.self.view_is in let b = c.requires.small in omega (arith, a, b) in
+    record {
+      sound = sound_created (kept_of s) (record { rows = c.set.new.self.map; used = c.insert-2.new.self; spare = s.room - 1 }) o.id o
+          c.set.ensures.map none c.insert-2.ensures.ids c.requires.row few small c.self.invariant.sound;
+      indexed = indexed_created s.rows.map c.set.new.self.map (ids_of s.kinds.tables) (ids_of c.insert.new.self.tables)
+          (count_of s.children.counts.map) (count_of c.add.new.self.counts.map) s.bytes (s.bytes + c.bytes.result) o.id o
+          c.set.ensures.map none c.insert.ensures.ids c.add.ensures.counts (ap (λ n. s.bytes + n) c.bytes.ensures) c.self.invariant.indexed;
+      has_room = record {
+        rows = let a = room.rows in let b = c.set.ensures.spare in omega (arith, a, b, one, here);
+        used = let a = room.used in let b = c.insert-2.ensures.spare in omega (arith, a, b, one, here);
+        kinds = λ kind. let a = room.kinds kind in let b = c.insert.ensures.room kind in omega (arith, a, b, one, here);
+        children = let a = room.children in let b = c.add.ensures.room in omega (arith, a, b, one, here);
+      };
+    }

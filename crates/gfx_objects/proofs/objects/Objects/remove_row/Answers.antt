@@ -1,0 +1,57 @@
+use Rattle.std.proofs.Common.{◌≡◌, ◌-◌, None, refl, ap, sym, ◌∙◌, arith}
+use Rattle.std.specs.FinMap as map
+use Rattle.gfx_model.specs.Views.{detail_bytes}
+use Rattle.gfx_objects.specs.Object.{detail_of}
+use Rattle.gfx_objects.specs.Inside.{kept_of}
+use Rattle.gfx_objects.specs.Kinds.{ids_of}
+use Rattle.gfx_objects.specs.Children.{count_of}
+use Rattle.gfx_objects.proofs.Index.{remove_none, total_removed}
+use Rattle.gfx_objects.proofs.Kept.{sound_same, sound_removed, indexed_same, indexed_removed}
+use Rattle.gfx_objects.proofs.objects.Objects.remove_row.Goals as goal
+
+pub bytes-requires : goal.bytes-requires
+bytes-requires c = (c.self.invariant.sound.row c.args.id c.in-Some.object (sym c.in-Some.ensures.value)).within
+
+pub overflow_sub-self : goal.overflow_sub-self
+overflow_sub-self c =
+    let all = c.self.invariant.indexed.in_all in
+    let part = total_removed c.self.inside.rows.map c.args.id c.in-Some.object (sym c.in-Some.ensures.value) (λ id o. detail_bytes (detail_of o.detail)) in
+    let is = c.bytes.ensures in
+    omega (arith, all, part, is)
+
+pub invariant_of-self : goal.invariant_of-self
+invariant_of-self c =
+    let s = c.self.inside in
+    let o = c.in-Some.object in
+    let some = sym c.in-Some.ensures.value in
+    let room = c.self.invariant.has_room in
+    record {
+      sound = sound_removed (kept_of s) (record { rows = c.remove.new.self.map; used = s.used; spare = s.room }) c.args.id o c.in-Some.ensures.map some refl c.self.invariant.sound;
+      indexed = indexed_removed s.rows.map c.remove.new.self.map (ids_of s.kinds.tables) (ids_of c.remove-in-Some.new.self.tables)
+          (count_of s.children.counts.map) (count_of c.remove-in-Some-2.new.self.counts.map) s.bytes (s.bytes - c.bytes.result) c.args.id o
+          c.in-Some.ensures.map some c.remove-in-Some.ensures.ids c.remove-in-Some-2.ensures.counts (ap (λ n. s.bytes - n) c.bytes.ensures) c.self.invariant.indexed;
+      has_room = record {
+        rows = let a = room.rows in let b = c.in-Some.ensures.spare in omega (arith, a, b);
+        used = room.used;
+        kinds = λ kind. let a = room.kinds kind in let b = c.remove-in-Some.ensures.room kind in omega (arith, a, b);
+        children = let a = room.children in let b = c.remove-in-Some-2.ensures.room in omega (arith, a, b);
+      };
+    }
+
+pub invariant_of-self-in_default : goal.invariant_of-self-in_default
+invariant_of-self-in_default c =
+    let s = c.self.inside in
+    let none : map.get s.rows.map c.args.id ≡ None = sym c.in_default.ensures.value in
+    let same = c.in_default.ensures.map ∙ remove_none s.rows.map c.args.id none in
+    let room = c.self.invariant.has_room in
+    record {
+      sound = sound_same (kept_of s) (record { rows = c.remove.new.self.map; used = s.used; spare = s.room }) same refl c.self.invariant.sound;
+      indexed = indexed_same s.rows.map c.remove.new.self.map (ids_of s.kinds.tables) (ids_of s.kinds.tables) (count_of s.children.counts.map) (count_of s.children.counts.map)
+          s.bytes same (λ kind. refl) refl c.self.invariant.indexed;
+      has_room = record {
+        rows = let a = room.rows in let b = c.in_default.ensures.spare in omega (arith, a, b);
+        used = room.used;
+        kinds = room.kinds;
+        children = room.children;
+      };
+    }

@@ -1,0 +1,5 @@
+pub mod Object
+pub mod Kinds
+pub mod Children
+pub mod Objects
+pub mod Inside

@@ -1,0 +1,89 @@
+-- What is kept of all objects, and what it answers to the questions of a capture.
+use Rattle.std.specs.Prelude.{◌≡◌, ℕ, ◌<◌, ◌≤◌, ◌==◌, ◌^◌, nat_lt, ◌&&◌, true, false, find, Option, Some, None, is_some, option_map, option_and_then, if◌then◌else◌, refl}
+use Rattle.std.specs.Option.{option_map_or}
+use Rattle.std.specs.Ordering.{nat_cmp}
+use Rattle.std.specs.Coded.{Coded, code_by, coded×, coded_ℕ}
+use Rattle.std.specs.FinMap as map
+use Rattle.std.specs.FinMap.{FinMap}
+use Rattle.gfx_types.specs.declared.names.Kind.{Kind}
+use Rattle.gfx_table.specs.Slots.{Slots, slots_code}
+use Rattle.gfx_table.specs.Used.{holds}
+use Rattle.gfx_table.specs.Values.{with_rows}
+use Rattle.gfx_table.specs.Rows.{total}
+use Rattle.gfx_model.specs.Steps.{kind_of, kind_number}
+use Rattle.gfx_model.specs.Questions.{new_buffer}
+use Rattle.gfx_model.specs.Views.{View, is_live, detail_bytes}
+use Rattle.gfx_objects.specs.declared.object.Object.{Object}
+use Rattle.gfx_objects.specs.Object.{made, detail_of, bound_of, mapped_of, layout_of, is_within}
+
+-- the rows, the used ids and the reserved room
+pub record Kept : Type 0 where
+  -- the live objects by their ids
+  pub rows : FinMap nat_cmp Object
+  -- the set of all ids that were ever used
+  pub used : Slots ℕ
+  -- how many creations there is room for
+  pub spare : ℕ
+
+-- how the logic stores it, as the triple of its fields
+abbrev pub kept_code : Coded Object → Coded Kept
+kept_code code =
+    code_by (FinMap nat_cmp Object × (Slots ℕ × ℕ)) (coded× (map.code coded_ℕ code) (coded× (slots_code coded_ℕ) coded_ℕ))
+    (λ k. (k.rows, (k.used, k.spare))) (λ p. record { rows = p.0; used = p.1.0; spare = p.1.1 }) (λ _. refl)
+
+-- What the rows answer. Commands, signals, acquired images and frames are kept elsewhere: they are plain here.
+unfoldable pub answers : Kept → View
+answers k = record {
+  live = λ x. option_map made (map.get k.rows x);
+  ids = map.keys k.rows;
+  used = holds k.used;
+  bound = λ x. option_and_then (λ o. bound_of o.detail) (map.get k.rows x);
+  mapped = λ x. option_and_then (λ o. mapped_of o.detail) (map.get k.rows x);
+  layout = λ x. option_map_or (λ o. layout_of o.detail) (map.get k.rows x) 0;
+  buffer = λ x. new_buffer;
+  signalled = λ x. false;
+  acquired = λ x index. false;
+  next_frame = 1;
+  is_empty = false;
+  section = None;
+}
+
+-- the least live id of a kind above the given one
+abbrev pub next_of : View → Kind → ℕ → Option ℕ
+next_of v kind after = find (λ x. nat_lt after x && is_live v kind x) v.ids
+
+-- a row and its id
+pub record IsRow (id : ℕ) (o : Object) : Type 0 where
+  pub same_id : o.id ≡ id
+  pub not_zero : 0 < id
+  pub same_kind : o.kind ≡ kind_of (detail_of o.detail)
+  pub within : is_within (detail_of o.detail) ≡ true
+
+-- What always holds: each row has its own id and kind, its id was used, and the limits on objects and bytes are kept.
+pub record IsSound (k : Kept) : Type 0 where
+  pub row : (id : ℕ) (o : Object) → map.get k.rows id ≡ Some o → IsRow id o
+  pub used : (id : ℕ) → is_some (map.get k.rows id) ≡ true → holds k.used id ≡ true
+  pub few : map.len k.rows ≤ 65536
+  pub small : total (λ id o. detail_bytes (detail_of o.detail)) k.rows ≤ 2 ^ 28
+
+-- the mark of a row that is of a kind
+abbrev pub mark : Kind → ℕ → Object → Option (Unit {0})
+mark kind id o = if kind_number o.kind == kind_number kind then Some tt else None
+
+-- the ids of the rows of a kind
+abbrev pub of_kind : Kind → FinMap nat_cmp Object → FinMap nat_cmp (Unit {0})
+of_kind kind = with_rows (mark kind)
+
+-- how many rows have this parent
+abbrev pub children_in : FinMap nat_cmp Object → ℕ → ℕ
+children_in rows parent = total (λ id o. if o.parent == parent then 1 else 0) rows
+
+-- what the rows count against the limit on bytes
+abbrev pub bytes_in : FinMap nat_cmp Object → ℕ
+bytes_in rows = total (λ id o. detail_bytes (detail_of o.detail)) rows
+
+-- the ids by kind, the counts of children and the bytes are those of the rows
+pub record IsIndexed (rows : FinMap nat_cmp Object) (kinds : Kind → FinMap nat_cmp (Unit {0})) (children : ℕ → ℕ) (bytes : ℕ) : Type 0 where
+  pub by_kind : (kind : Kind) → kinds kind ≡ of_kind kind rows
+  pub by_parent : (parent : ℕ) → children parent ≡ children_in rows parent
+  pub in_all : bytes ≡ bytes_in rows

@@ -1,0 +1,13 @@
+//! The live objects of a capture, and all ids that were ever used.
+#![tactic(auto)]
+
+mod children;
+mod kinds;
+mod object;
+mod objects;
+
+pub use object::{Binding, Detail, MapRange, Object, Window};
+pub use objects::Objects;
+
+#[cfg(test)]
+mod tests;

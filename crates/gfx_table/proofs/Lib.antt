@@ -1,0 +1,5 @@
+mod Bits
+mod Changing
+mod Joining
+mod Leasts
+mod Places
