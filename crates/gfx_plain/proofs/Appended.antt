@@ -3,7 +3,7 @@ use Rattle.std.proofs.Common.{◌≡◌, ℕ, List, [], ◌∷◌, ◌++◌, Opt
 use Rattle.gfx_types.specs.declared.names.Fault.{Fault}
 use Rattle.gfx_model.specs.Views.{View}
 use Rattle.gfx_model.specs.Checks.{Check, first, broken, first_broken, new_faults, new_fault, room_fault}
-use Rattle.gfx_model.specs.Checks.Check.{room, new}
+use Rattle.gfx_model.specs.Checks.Check.{room}
 use Rattle.gfx_model.specs.Table.{new_each}
 
 first_assoc : (a b c : Option Fault) → first (first a b) c ≡ first a (first b c)

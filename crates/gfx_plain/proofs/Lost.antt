@@ -1,5 +1,5 @@
 -- The state of a buffer where a resource of one of its commands goes.
-use Rattle.std.proofs.Common.{◌≡◌, refl, ap, sym, ◌∙◌, Bool, true, false, ◌&&◌, if◌then◌else◌, cond, ℕ, List, ◌∷◌}
+use Rattle.std.proofs.Common.{◌≡◌, refl, ap, sym, ◌∙◌, Bool, true, false, ◌&&◌, if◌then◌else◌, ℕ, List, ◌∷◌}
 use Rattle.gfx_model.specs.Steps as model
 use Rattle.gfx_model.specs.Questions as asked
 

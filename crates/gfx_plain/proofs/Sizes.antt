@@ -1,5 +1,5 @@
 -- How many bytes the fields of a command have.
-use Rattle.std.proofs.Common.{◌≡◌, ℕ, ◌+◌, ◌*◌, List, [], ◌∷◌, ◌++◌, length, flat_map, refl, sym, ap, ◌∙◌, arith, length-append}
+use Rattle.std.proofs.Common.{◌≡◌, ℕ, ◌+◌, ◌*◌, List, [], ◌∷◌, length, flat_map, refl, ◌∙◌, arith, length-append}
 use Rattle.std.specs.List.{sum_by}
 use Rattle.std.proofs.lemmas.List.Concat.{length-flat_map}
 use Rattle.std.proofs.lemmas.List.Sums.{sum_by-append}
@@ -8,10 +8,9 @@ use Rattle.gfx_types.specs.declared.lists.Barrier.{Barrier}
 use Rattle.gfx_types.specs.declared.lists.BufferRegion.{BufferRegion}
 use Rattle.gfx_types.specs.declared.lists.ImageRegion.{ImageRegion}
 use Rattle.gfx_types.specs.declared.lists.MixedRegion.{MixedRegion}
-use Rattle.gfx_model.specs.Events.{Event}
 use Rattle.gfx_model.specs.Events.Event.{CmdPipelineBarrier, CmdFillBuffer, CmdUpdateBuffer, CmdCopyBuffer, CmdCopyImage, CmdCopyBufferToImage, CmdCopyImageToBuffer, CmdClearColorImage}
-use Rattle.gfx_model.specs.Spelling.{Field, field_bytes, list_of, barrier_fields, buffer_region_fields, image_region_fields, mixed_region_fields, fields_of, spelling}
-use Rattle.gfx_model.specs.Spelling.Field.{id, u64, u32, raw}
+use Rattle.gfx_model.specs.Spelling.{Field, field_bytes, barrier_fields, buffer_region_fields, image_region_fields, mixed_region_fields, fields_of, spelling}
+use Rattle.gfx_model.specs.Spelling.Field.{id, u32}
 
 -- the bytes of a field
 abbrev size : Field → ℕ

@@ -1,5 +1,4 @@
 -- Answers of the code as those of the definitions.
-use Rattle.std.specs.Prelude.{ℕ}
 use Rattle.gfx_model.specs.Steps as model
 use Rattle.gfx_model.specs.Questions as asked
 use Rattle.gfx_model.specs.Views as views

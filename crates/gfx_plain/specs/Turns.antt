@@ -1,5 +1,5 @@
 -- Turns of the code as those of the definitions, and what they leave.
-use Rattle.std.specs.Prelude.{◌≡◌, ℕ, Bool, List, map}
+use Rattle.std.specs.Prelude.{◌≡◌, ℕ, Bool, List}
 use Rattle.gfx_model.specs.Views.{view_of}
 use Rattle.gfx_model.specs.Checks as checks
 use Rattle.gfx_plain.specs.Steps.{steps_in}

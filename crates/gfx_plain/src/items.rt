@@ -1,4 +1,4 @@
-//! The checks of the items of a list, put behind other checks.
+//! The checks of a range and of the items of a list, put behind other checks.
 
 ghost use Rattle.std.specs.Prelude.{◌≡◌, ◌++◌, ◌&&◌, ◌||◌, ◌==◌, nat_le, ◌∷◌, [], map, flat_map, IfOk};
 ghost use Rattle.gfx_types.specs.declared.names.Kind.TheVariants as kind;
@@ -11,6 +11,7 @@ use crate::values::{both, sum};
 use gfx_types::{
     Barrier, BufferRegion, Fault, ImageRegion, Kind, MixedRegion, Present, WantMemory,
 };
+use std::alloc::Global;
 
 /// These checks and then those.
 pub fn with<'a>(checks: Vec<Check<'a>>, more: &[Check<'a>]) -> Result<Vec<Check<'a>>, WantMemory>
@@ -20,6 +21,30 @@ pub fn with<'a>(checks: Vec<Check<'a>>, more: &[Check<'a>]) -> Result<Vec<Check<
     match checks.extend_from_slice(more) {
         Ok(()) => Ok(checks),
         Err(_) => Err(WantMemory),
+    }
+}
+
+/// A row that begins with these checks.
+pub fn row<'a>(alloc: Global, checks: &[Check<'a>]) -> Result<Vec<Check<'a>>, WantMemory>
+    ensures { IfOk result (λ all. map check_of all.items ≡ map check_of checks.now) }
+{
+    with(Vec::new(alloc), checks)
+}
+
+/// A range that may reach to the end.
+pub fn span<'a>(
+    checks: Vec<Check<'a>>,
+    id: u64,
+    offset: u64,
+    size: u64,
+) -> Result<Vec<Check<'a>>, WantMemory>
+    ensures { IfOk result (λ all. map check_of all.items ≡ map check_of checks.entry.items ++ table.span id offset size) }
+{
+    if size == u64::MAX {
+        with(checks, &[Check::BeginsIn(id, offset)])
+    } else {
+        let end = Check::EndsIn(id, sum(offset, size));
+        with(checks, &[Check::BeginsIn(id, offset), end])
     }
 }
 

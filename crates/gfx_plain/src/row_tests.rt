@@ -1,7 +1,7 @@
 //! One capture, worked by hand as a list of steps: the faults of its calls after some of them.
 
 use crate::broken::fault_of;
-use crate::rows_lists::cmd_copy_buffer_to_image;
+use crate::rows_commands::cmd_copy_buffer_to_image;
 use crate::rows_queue::{queue_present, queue_submit};
 use crate::steps::{Command, Detail, Step, Steps};
 use crate::turns::Turn;
