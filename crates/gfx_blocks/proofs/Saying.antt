@@ -1,15 +1,14 @@
 -- What a payload says, as it is read: a number, a thread where there is one, and fields.
-use Rattle.std.proofs.Common.{◌≡◌, ◌≢◌, ℕ, ◌<◌, ◌≤◌, ◌⊎◌, inl, inr, Bool, true, false, not, ◌&&◌, ◌||◌, nat_eq, nat_le, nat_lt, cond, List, length, take, drop, Option, Some, None, refl, sym, ap, ◌∙◌, arith}
-use Rattle.std.proofs.lemmas.Bool.{le-leb, lt-ltb, lt-leb}
+use Rattle.std.proofs.Common.{◌≡◌, ◌≢◌, ℕ, ◌⊎◌, inl, inr, Bool, true, false, ◌&&◌, nat_eq, nat_le, nat_lt, cond, List, length, take, Option, Some, None, refl, sym, ap, ◌∙◌, arith}
 use Rattle.std.proofs.lemmas.Bool.Decides.{nat_tests}
-use Rattle.std.specs.Int.{w32, w64, byte_len, from_le_bytes}
+use Rattle.std.specs.Int.{w32, w64, from_le_bytes}
 use Rattle.gfx_types.specs.declared.names.Fault.{Fault}
 use Rattle.gfx_types.specs.declared.names.Fault.TheVariants.{UnknownBlock, BadParams}
 use Rattle.gfx_model.specs.Events.{Event}
 use Rattle.gfx_model.specs.Events.Event.{BeginSection, EndSection}
-use Rattle.gfx_model.specs.Blocks.{Content, skipped, effect, is_skipped, is_unknown, u32_at}
-use Rattle.gfx_grammar.specs.Reading.{◌>>=◌, read_number, read_u64}
-use Rattle.gfx_grammar.specs.Rows.{exactly, with1, by_row, read_event, read_content, read_payload}
+use Rattle.gfx_model.specs.Blocks.{Content, skipped, effect, is_skipped, u32_at}
+use Rattle.gfx_grammar.specs.Reading.{◌>>=◌, read_number}
+use Rattle.gfx_grammar.specs.Rows.{with1, by_row, read_event, read_content, read_payload}
 use Rattle.gfx_grammar.specs.Splitting.{payload_fault}
 use Rattle.gfx_grammar.specs.NoRowLaws.{others_are_not_read}
 use Rattle.gfx_blocks.specs.Payloads.{IsNumber, IsNoNumber}

@@ -8,7 +8,7 @@ mod standard;
 #[cfg(test)]
 mod tests;
 
-pub use fields::{take_u32, take_u64};
+pub use fields::{put_u32, put_u64, take_u32, take_u64};
 pub use memory::{MemSink, MemSource};
 pub use outside::{Failed, Sink, Source, fill, write_whole};
 pub use standard::{StdSink, StdSource};

@@ -1,7 +1,7 @@
 // What no clause says: that calls on their good path give more than a refusal, and what the adapters of std do.
 use crate::{
-    Failed, MemSink, MemSource, Sink, Source, StdSink, StdSource, fill, take_u32, take_u64,
-    write_whole,
+    Failed, MemSink, MemSource, Sink, Source, StdSink, StdSource, fill, put_u32, put_u64, take_u32,
+    take_u64, write_whole,
 };
 use std::alloc::Global;
 use std::io::{self, ErrorKind, Read, Write};
@@ -93,4 +93,20 @@ fn numbers_begin_with_their_lowest_byte(rt: HostRuntime) {
     assert_eq!(rt; take_u32(&bytes, 1), Some(0x201));
     assert_eq!(rt; take_u64(&bytes, 1), Some(0x8000_0000_0000_0201));
     assert_eq!(rt; take_u64(&bytes, 2), None);
+}
+
+#[test]
+fn four_bytes_are_put_behind_the_others(rt: HostRuntime) -> Result<(), Fail> {
+    let mut out = Vec::from_slice(rt.alloc(), &[9])?;
+    assert_eq!(rt; put_u32(&mut out, 0x8000_0201), Ok(()));
+    assert_eq!(rt; out.as_slice(), [9, 1, 2, 0, 0x80].as_slice());
+    Ok(())
+}
+
+#[test]
+fn eight_bytes_are_put_behind_the_others(rt: HostRuntime) -> Result<(), Fail> {
+    let mut out = Vec::from_slice(rt.alloc(), &[9])?;
+    assert_eq!(rt; put_u64(&mut out, 0x8000_0000_0000_0201), Ok(()));
+    assert_eq!(rt; out.as_slice(), [9, 1, 2, 0, 0, 0, 0, 0, 0x80].as_slice());
+    Ok(())
 }

@@ -1,5 +1,5 @@
 -- What reading answers, by the readers of the grammar.
-use Rattle.std.specs.Prelude.{◌≡◌, List, ℕ, Option, Some, None, Result, Ok, Err, MatchOption, ⊤}
+use Rattle.std.specs.Prelude.{◌≡◌, List, ℕ, Option, Some, None, Result, Ok, Err, ⊤}
 use Rattle.gfx_model.specs.Events.{Event}
 use Rattle.gfx_grammar.specs.Reading.{Reader}
 use Rattle.gfx_grammar.specs.Rows.{exactly}

@@ -2,12 +2,21 @@
 #![tactic(auto)]
 
 mod decoding;
+mod encoding;
 mod fault;
+mod ids;
 mod lists;
 mod read;
 mod records;
 mod table;
+#[cfg(test)]
+mod tests;
+mod write;
+mod write_lists;
+mod write_records;
 
 pub use decoding::{decode, decode_meta};
+pub use encoding::{encode, encode_meta, length};
 pub use fault::ParamFault;
+pub use ids::{call_id, meta_id};
 pub use read::{front_u32, front_u64};

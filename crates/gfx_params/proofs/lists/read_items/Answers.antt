@@ -1,4 +1,4 @@
-use Rattle.std.proofs.Common.{refl, ◌∙◌, ap, subst, sym}
+use Rattle.std.proofs.Common.{refl}
 use Rattle.std.specs.Prelude.{map}
 use Rattle.gfx_grammar.specs.Reading.{read_list}
 use Rattle.gfx_params.proofs.Items.{list_goes_on, list_ends, item_follows, map-one_more}

@@ -1,0 +1,127 @@
+// Writing of the records in lists.
+ghost use Rattle.gfx_model.specs.Spelling.{barrier_fields, buffer_region_fields, image_region_fields, mixed_region_fields, present_fields, submit_fields};
+
+use crate::table::in_order;
+use crate::write::WriteFields;
+use gfx_types::{Barrier, BufferRegion, ImageRegion, MixedRegion, Present, Submit};
+use std::alloc::AllocError;
+
+impl WriteFields for Barrier {
+    ghost fields = { barrier_fields };
+
+    fn write(&self, out: &mut Vec<u8>) -> Result<(), AllocError> {
+        let Barrier {
+            image,
+            before,
+            after,
+        } = *self;
+        in_order!(image, before, after).write(out)
+    }
+
+    fn length(&self) -> u64 {
+        let Barrier {
+            image,
+            before,
+            after,
+        } = *self;
+        in_order!(image, before, after).length()
+    }
+}
+
+impl WriteFields for BufferRegion {
+    ghost fields = { buffer_region_fields };
+
+    fn write(&self, out: &mut Vec<u8>) -> Result<(), AllocError> {
+        let BufferRegion { from, to, size } = *self;
+        in_order!(from, to, size).write(out)
+    }
+
+    fn length(&self) -> u64 {
+        let BufferRegion { from, to, size } = *self;
+        in_order!(from, to, size).length()
+    }
+}
+
+impl WriteFields for ImageRegion {
+    ghost fields = { image_region_fields };
+
+    fn write(&self, out: &mut Vec<u8>) -> Result<(), AllocError> {
+        let ImageRegion {
+            from_x,
+            from_y,
+            to_x,
+            to_y,
+            width,
+            height,
+        } = *self;
+        in_order!(from_x, from_y, to_x, to_y, width, height).write(out)
+    }
+
+    fn length(&self) -> u64 {
+        let ImageRegion {
+            from_x,
+            from_y,
+            to_x,
+            to_y,
+            width,
+            height,
+        } = *self;
+        in_order!(from_x, from_y, to_x, to_y, width, height).length()
+    }
+}
+
+impl WriteFields for MixedRegion {
+    ghost fields = { mixed_region_fields };
+
+    fn write(&self, out: &mut Vec<u8>) -> Result<(), AllocError> {
+        let MixedRegion {
+            offset,
+            row,
+            rows,
+            x,
+            y,
+            width,
+            height,
+        } = *self;
+        in_order!(offset, row, rows, x, y, width, height).write(out)
+    }
+
+    fn length(&self) -> u64 {
+        let MixedRegion {
+            offset,
+            row,
+            rows,
+            x,
+            y,
+            width,
+            height,
+        } = *self;
+        in_order!(offset, row, rows, x, y, width, height).length()
+    }
+}
+
+impl WriteFields for Present {
+    ghost fields = { present_fields };
+
+    fn write(&self, out: &mut Vec<u8>) -> Result<(), AllocError> {
+        let Present { swapchain, index } = *self;
+        in_order!(swapchain, index).write(out)
+    }
+
+    fn length(&self) -> u64 {
+        let Present { swapchain, index } = *self;
+        in_order!(swapchain, index).length()
+    }
+}
+
+impl WriteFields for Submit {
+    ghost fields = { submit_fields };
+
+    fn write(&self, out: &mut Vec<u8>) -> Result<(), AllocError> {
+        ((&self.waits, &self.cbs), &self.signals).write(out)
+    }
+
+    fn length(&self) -> u64 {
+        ((&self.waits, &self.cbs), &self.signals).length()
+    }
+}
