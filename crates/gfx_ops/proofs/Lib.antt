@@ -1,0 +1,4 @@
+pub mod Changes
+pub mod Appending
+pub mod Bounds
+pub mod Said
