@@ -1,0 +1,4 @@
+//! The tracker: what stands after a capture's effects, and which effect may follow.
+#![tactic(auto)]
+
+mod registry;
