@@ -1,0 +1,5 @@
+pub mod Spelled
+pub mod Index
+pub mod Added
+pub mod Counting
+pub mod Buffers

@@ -1,0 +1,7 @@
+pub mod Recorded
+pub mod Uses
+pub mod Commands
+pub mod Inside
+pub mod Recording
+pub mod Recordings
+pub mod Counted
