@@ -3,3 +3,6 @@ pub mod Index
 pub mod Added
 pub mod Counting
 pub mod Buffers
+pub mod Rising
+pub mod Passing
+pub mod Named

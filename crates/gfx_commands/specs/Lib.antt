@@ -5,3 +5,4 @@ pub mod Inside
 pub mod Recording
 pub mod Recordings
 pub mod Counted
+pub mod Layouts

@@ -1,13 +1,20 @@
 //! The commands of a buffer, and what is kept beside them so that no byte is read again.
-ghost use Rattle.std.specs.Prelude.{◌≡◌, ◌+◌, ◌<◌, ◌^◌, ◌++◌, ◌∷◌, [], length, sum_by, slice_get, OnOk, OnErr, IfSome};
+ghost use Rattle.std.specs.Prelude.{flat_map, ◌≡◌, ◌+◌, ◌<◌, ◌^◌, ◌++◌, ◌∷◌, [], length, sum_by, slice_get, OnOk, OnErr, IfSome};
 ghost use Rattle.std.specs.Option.{option_copied};
+ghost use Rattle.std.specs.List.{list_any};
 ghost use Rattle.gfx_model.specs.Events.{event_of_call};
 ghost use Rattle.gfx_model.specs.Spelling.{HasSpelling, spelling};
+ghost use Rattle.gfx_model.specs.Steps.{resources_of};
+ghost use Rattle.gfx_model.specs.Checks.{layouts_of};
+ghost use Rattle.gfx_model.specs.After.{is_lost};
+ghost use Rattle.gfx_objects.specs.Objects.{answers};
 ghost use Rattle.gfx_commands.specs.Recorded.{IsRecorded};
+ghost use Rattle.gfx_commands.specs.Uses.{IsIndex};
 ghost use Rattle.gfx_commands.specs.Commands.{events_in, bytes_of};
 
 use crate::recorded::Recorded;
 use crate::uses::{Uses, resources_in};
+use gfx_objects::Objects;
 use gfx_types::{Call, WantMemory};
 use std::alloc::Global;
 use std::marker::Model;
@@ -89,5 +96,19 @@ impl Commands {
         self.bytes += length;
         self.uses.add(call);
         Ok(())
+    }
+
+    /// The uses of the resources that the commands name.
+    pub(crate) fn uses(&self) -> &Uses
+        ensures { IsIndex result.now.table.map result.now.agrees (flat_map resources_of (events_in self.now)) (flat_map layouts_of (events_in self.now)) }
+    {
+        &self.uses
+    }
+
+    /// Whether a command names a resource that is lost where `gone` ends.
+    pub(crate) fn names_lost(&self, gone: u64, objects: &Objects) -> bool
+        ensures { result ≡ list_any (λ c. list_any (is_lost (answers objects.now) gone) (resources_of c)) (events_in self.now) }
+    {
+        self.uses.names_lost(gone, objects)
     }
 }

@@ -2,6 +2,8 @@
 #![tactic(auto)]
 
 mod commands;
+mod layouts;
+mod lost;
 mod recorded;
 mod recording;
 mod recordings;

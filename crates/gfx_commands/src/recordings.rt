@@ -1,21 +1,29 @@
 //! What is recorded in all command buffers.
-ghost use Rattle.std.specs.Prelude.{◌≡◌, ℕ, ◌+◌, ◌<◌, ◌≤◌, ◌^◌, ◌==◌, ◌&&◌, ◌++◌, ◌∷◌, [], List, length, sum_by, slice_get, option_map, Some, IsTrue, IsSome, IfSome, OnOk, OnErr, true, if◌then◌else◌};
+ghost use Rattle.std.specs.Prelude.{flat_map, ◌≡◌, ℕ, ◌+◌, ◌<◌, ◌≤◌, ◌^◌, ◌==◌, ◌&&◌, ◌++◌, ◌∷◌, [], List, length, sum_by, slice_get, option_map, Some, IsTrue, IsSome, IsNone, IfSome, OnOk, OnErr, true, if◌then◌else◌};
 ghost use Rattle.std.specs.Option.{option_copied};
+ghost use Rattle.std.specs.List.{list_any};
 ghost use Rattle.std.specs.FinMap as map;
+ghost use Rattle.gfx_table.specs.Slots.{least_above};
 ghost use Rattle.gfx_model.specs.Events.{event_of_call};
 ghost use Rattle.gfx_model.specs.Spelling.{HasSpelling, spelling};
 ghost use Rattle.gfx_model.specs.Questions.{State, new_buffer, is_once, invalidated, passes, is_in_pool};
+ghost use Rattle.gfx_model.specs.Steps.{resources_of};
 ghost use Rattle.gfx_model.specs.Views.{commands_in, bytes_in};
 ghost use Rattle.gfx_model.specs.Checks.{is_recording, is_distinct};
-ghost use Rattle.gfx_model.specs.After.{is_gone, buffer_after_end};
+ghost use Rattle.gfx_model.specs.After.{is_gone, is_lost, buffer_after_end};
 ghost use Rattle.gfx_objects.specs.Objects.{answers};
 ghost use Rattle.gfx_commands.specs.declared.recording.Recording.{Recording};
 ghost use Rattle.gfx_commands.specs.Recorded.{event_in, IsRecorded};
 ghost use Rattle.gfx_commands.specs.Recording.{state_of, buffer_of};
+ghost use Rattle.gfx_commands.specs.Uses.{IsIndex};
+ghost use Rattle.gfx_commands.specs.Layouts.{asked_in};
 ghost use Rattle.gfx_commands.specs.Recordings.{buffers, commands_total, bytes_total, HoldsKept};
 
 use crate::recorded::Recorded;
 use crate::recording::{CbState, Recording};
+use crate::lost::{is_gone, is_in_pool};
+use crate::uses::Uses;
+use gfx_objects::Objects;
 use gfx_table::Table;
 use gfx_types::{Call, WantMemory};
 use std::alloc::Global;
@@ -198,6 +206,80 @@ impl Recordings {
         };
         if row.is_once() {
             self.invalidate(cb);
+        }
+    }
+
+    /// All buffers of the pool are as new ones.
+    pub fn reset_pool(&mut self, pool: u64, objects: &Objects)
+        ensures { buffers self.new ≡ (λ x. if passes (is_in_pool pool) ((answers objects.now).live x) then new_buffer else buffers self.old x) }
+    {
+        self.reset_one(0, pool, objects);
+        let mut after = 0;
+        'rows: while let Some(cb) = self.next(after) {
+            self.reset_one(cb, pool, objects);
+            after = cb;
+        }
+    }
+
+    /// What the end of an object makes of all buffers: those that go with it are as new ones, and those that name a
+    /// resource which goes, or the memory under it, are invalid.
+    pub fn invalidate_users(&mut self, gone: u64, objects: &Objects)
+        ensures { buffers self.new ≡ (λ x. if is_gone (answers objects.now) gone x then new_buffer else buffer_after_end (answers objects.now) gone (buffers self.old x)) }
+    {
+        self.end_one(0, gone, objects);
+        let mut after = 0;
+        'rows: while let Some(cb) = self.next(after) {
+            self.end_one(cb, gone, objects);
+            after = cb;
+        }
+    }
+
+    /// The uses of a buffer; those of a buffer that isn't kept are none.
+    pub(crate) fn uses(&self, cb: u64) -> Option<&Uses>
+        ensures index { IfSome result (λ u. IsIndex u.now.table.map u.now.agrees (flat_map resources_of (buffers self.now cb).commands) (asked_in (buffers self.now) cb)) }
+        ensures none { IsNone result → asked_in (buffers self.now) cb ≡ [] }
+    {
+        match self.rows.get(cb) {
+            Some(row) => Some(row.commands.uses()),
+            None => None,
+        }
+    }
+
+    // The least kept buffer above an id.
+    fn next(&self, after: u64) -> Option<u64>
+        ensures { result ≡ least_above self.now after }
+    {
+        self.rows.next_above(after)
+    }
+
+    // The buffer is as a new one, where it is of the pool.
+    fn reset_one(&mut self, cb: u64, pool: u64, objects: &Objects)
+        ensures { buffers self.new ≡ (λ x. if cb == x then (if passes (is_in_pool pool) ((answers objects.now).live x) then new_buffer else buffers self.old x) else buffers self.old x) }
+    {
+        if is_in_pool(objects, pool, cb) {
+            self.reset(cb);
+        }
+    }
+
+    // What the end of an object makes of the buffer.
+    fn end_one(&mut self, cb: u64, gone: u64, objects: &Objects)
+        ensures { buffers self.new ≡ (λ x. if cb == x then (if is_gone (answers objects.now) gone x then new_buffer else buffer_after_end (answers objects.now) gone (buffers self.old x)) else buffers self.old x) }
+    {
+        if is_gone(objects, gone, cb) {
+            self.reset(cb);
+        } else if self.names_lost(cb, gone, objects) {
+            self.invalidate(cb);
+        }
+    }
+
+    // Whether a command of the buffer names a resource that is lost.
+    fn names_lost(&self, cb: u64, gone: u64, objects: &Objects) -> bool
+        ensures names { result ≡ list_any (λ c. list_any (is_lost (answers objects.now) gone) (resources_of c)) (buffers self.now cb).commands }
+        ensures kept { result ≡ true → IsSome (map.get self.now cb) }
+    {
+        match self.rows.get(cb) {
+            Some(row) => row.commands.names_lost(gone, objects),
+            None => false,
         }
     }
 

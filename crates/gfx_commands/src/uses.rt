@@ -1,11 +1,18 @@
 //! What the commands of a buffer ask of each resource that they name.
-ghost use Rattle.std.specs.Prelude.{◌≡◌, ◌+◌, ◌≤◌, ◌++◌, ◌∷◌, [], ℕ, List, true, length, map, OnOk};
+ghost use Rattle.std.specs.Prelude.{◌≡◌, ◌+◌, ◌≤◌, ◌++◌, ◌∷◌, [], ℕ, List, true, length, map, is_some, OnOk};
+ghost use Rattle.std.specs.List.{list_any};
+ghost use Rattle.std.specs.FinMap as finmap;
+ghost use Rattle.gfx_table.specs.Slots.{least_above};
 ghost use Rattle.gfx_model.specs.Events.{event_of_call};
 ghost use Rattle.gfx_model.specs.Steps.{resources_of};
 ghost use Rattle.gfx_model.specs.Checks.{Layouts, layouts_of};
 ghost use Rattle.gfx_model.specs.Checks.Layouts.{stays, goes};
+ghost use Rattle.gfx_model.specs.After.{is_lost};
+ghost use Rattle.gfx_objects.specs.Objects.{answers};
 ghost use Rattle.gfx_commands.specs.Uses.{IsIndex, use_of, known, accepts, asked, lets_go, gone};
 
+use crate::lost::is_lost;
+use gfx_objects::Objects;
 use gfx_table::Table;
 use gfx_types::{Barrier, Call};
 use std::alloc::{AllocError, Global};
@@ -204,6 +211,37 @@ impl Uses {
             Call::CmdClearColorImage { image, layout, .. } => self.ask(*image, *layout),
             _ => {}
         }
+    }
+
+    /// The least resource above an id.
+    pub(crate) fn next(&self, after: u64) -> Option<u64>
+        ensures { result ≡ least_above self.now.table.map after }
+    {
+        self.table.next_above(after)
+    }
+
+    // Whether the resource is named.
+    fn names(&self, id: u64) -> bool
+        ensures { result ≡ is_some (finmap.get self.now.table.map id) }
+    {
+        self.table.get(id).is_some()
+    }
+
+    /// Whether a resource is lost where `gone` ends.
+    pub(crate) fn names_lost(&self, gone: u64, objects: &Objects) -> bool
+        ensures { (named : List ℕ) (asks : List Layouts) → IsIndex self.now.table.map self.now.agrees named asks → result ≡ list_any (is_lost (answers objects.now) gone) named }
+    {
+        if self.names(0) && is_lost(objects, gone, 0) {
+            return true;
+        }
+        let mut after = 0;
+        'ids: while let Some(id) = self.next(after) {
+            if is_lost(objects, gone, id) {
+                return true;
+            }
+            after = id;
+        }
+        false
     }
 }
 
