@@ -1,0 +1,14 @@
+//! What is recorded in each command buffer.
+#![tactic(auto)]
+
+mod commands;
+mod layouts;
+mod lost;
+mod recorded;
+mod recording;
+mod recordings;
+mod uses;
+
+pub use recorded::Recorded;
+pub use recording::CbState;
+pub use recordings::{Recordings, Totals};

@@ -1,0 +1,328 @@
+//! What is recorded in all command buffers.
+ghost use Rattle.std.specs.Prelude.{flat_map, ◌≡◌, ℕ, ◌+◌, ◌<◌, ◌≤◌, ◌^◌, ◌==◌, ◌&&◌, ◌++◌, ◌∷◌, [], List, length, sum_by, slice_get, option_map, Some, IsTrue, IsSome, IsNone, IfSome, OnOk, OnErr, true, if◌then◌else◌};
+ghost use Rattle.std.specs.Option.{option_copied};
+ghost use Rattle.std.specs.List.{list_any};
+ghost use Rattle.std.specs.FinMap as map;
+ghost use Rattle.gfx_table.specs.Slots.{least_above};
+ghost use Rattle.gfx_model.specs.Events.{event_of_call};
+ghost use Rattle.gfx_model.specs.Spelling.{HasSpelling, spelling};
+ghost use Rattle.gfx_model.specs.Questions.{State, new_buffer, is_once, invalidated, passes, is_in_pool};
+ghost use Rattle.gfx_model.specs.Steps.{resources_of};
+ghost use Rattle.gfx_model.specs.Views.{commands_in, bytes_in};
+ghost use Rattle.gfx_model.specs.Checks.{is_recording, is_distinct};
+ghost use Rattle.gfx_model.specs.After.{is_gone, is_lost, buffer_after_end};
+ghost use Rattle.gfx_objects.specs.Objects.{answers};
+ghost use Rattle.gfx_commands.specs.declared.recording.Recording.{Recording};
+ghost use Rattle.gfx_commands.specs.Recorded.{event_in, IsRecorded};
+ghost use Rattle.gfx_commands.specs.Recording.{state_of, buffer_of};
+ghost use Rattle.gfx_commands.specs.Uses.{IsIndex};
+ghost use Rattle.gfx_commands.specs.Layouts.{asked_in};
+ghost use Rattle.gfx_commands.specs.Recordings.{buffers, commands_total, bytes_total, HoldsKept};
+
+use crate::recorded::Recorded;
+use crate::recording::{CbState, Recording};
+use crate::lost::{is_gone, is_in_pool};
+use crate::uses::Uses;
+use gfx_objects::Objects;
+use gfx_table::Table;
+use gfx_types::{Call, WantMemory};
+use std::alloc::Global;
+use std::marker::Model;
+
+/// How many commands recording and executable buffers have, and how many bytes the fields of these are.
+#[derive(Clone, Copy, Debug, PartialEq, Eq)]
+pub struct Totals {
+    pub commands: u32,
+    pub bytes: u64,
+}
+
+impl Totals {
+    /// With the commands of a recording.
+    fn with(self, row: &Recording) -> Totals
+        requires few { self.commands + commands_in (buffer_of row.now) < 2 ^ 32 }
+        requires small { self.bytes + bytes_in (buffer_of row.now) < 2 ^ 64 }
+        ensures commands { result.commands ≡ self.commands + commands_in (buffer_of row.now) }
+        ensures bytes { result.bytes ≡ self.bytes + bytes_in (buffer_of row.now) }
+    {
+        Totals {
+            commands: self.commands + row.commands_kept() as u32,
+            bytes: self.bytes + row.bytes_kept(),
+        }
+    }
+
+    /// Without the commands of a recording that was counted.
+    fn without(self, row: &Recording) -> Totals
+        requires commands { commands_in (buffer_of row.now) ≤ self.commands }
+        requires bytes { bytes_in (buffer_of row.now) ≤ self.bytes }
+        ensures commands { result.commands + commands_in (buffer_of row.now) ≡ self.commands }
+        ensures bytes { result.bytes + bytes_in (buffer_of row.now) ≡ self.bytes }
+    {
+        Totals {
+            commands: self.commands - row.commands_kept() as u32,
+            bytes: self.bytes - row.bytes_kept(),
+        }
+    }
+}
+
+/// The state, the flags and the commands of each command buffer. Any other id is as a new buffer.
+#[derive(Drop)]
+pub struct Recordings {
+    rows: Table<Recording>,
+    totals: Totals,
+    alloc: Global,
+}
+
+impl Model for Recordings {
+    ghost use Rattle.std.specs.Coded.{coded_ℕ};
+    ghost use Rattle.std.specs.Ordering.{nat_cmp};
+    ghost use Rattle.std.specs.FinMap as map;
+    ghost use Rattle.gfx_commands.specs.declared.recording.Recording.{Recording};
+    ghost use Rattle.gfx_commands.specs.contracts.recording.Recording as recording;
+
+    ghost Value = { map.FinMap nat_cmp Recording };
+
+    ghost coded = { map.code coded_ℕ recording.the_row.coded };
+
+    ghost use Rattle.gfx_commands.specs.Counted.{IsCounted};
+
+    ghost view = { λ s. s.rows.map };
+
+    ghost invariant = { λ s. IsCounted s.rows.map s.totals };
+}
+
+impl Recordings {
+    /// All buffers are new.
+    pub fn new(alloc: Global) -> Self
+        ensures { buffers result ≡ (λ x. new_buffer) }
+    {
+        Recordings {
+            rows: Table::new(alloc),
+            totals: Totals {
+                commands: 0,
+                bytes: 0,
+            },
+            alloc,
+        }
+    }
+
+    /// The state of the buffer.
+    pub fn state(&self, cb: u64) -> CbState
+        ensures { state_of result ≡ (buffers self.now cb).state }
+    {
+        match self.rows.get(cb) {
+            Some(row) => row.state,
+            None => CbState::Initial,
+        }
+    }
+
+    /// The flags with which the buffer was begun.
+    pub fn flags(&self, cb: u64) -> u32
+        ensures { result ≡ (buffers self.now cb).flags }
+    {
+        match self.rows.get(cb) {
+            Some(row) => row.flags,
+            None => 0,
+        }
+    }
+
+    /// The command of the buffer at this place, none past the last.
+    pub fn command(&self, cb: u64, k: u32) -> Option<&Recorded>
+        ensures item { option_map event_in (option_copied result) ≡ slice_get (buffers self.now cb).commands k }
+        ensures recorded { IfSome result (λ r. IsRecorded r.now) }
+    {
+        match self.rows.get(cb) {
+            Some(row) => row.commands.get(k),
+            None => None,
+        }
+    }
+
+    /// The commands of recording and executable buffers, and the bytes of their fields.
+    pub fn totals(&self) -> Totals
+        ensures commands { (ids : List ℕ) → is_distinct ids ≡ true → HoldsKept (buffers self.now) ids → sum_by (λ x. commands_in (buffers self.now x)) ids ≡ result.commands }
+        ensures bytes { (ids : List ℕ) → is_distinct ids ≡ true → HoldsKept (buffers self.now) ids → sum_by (λ x. bytes_in (buffers self.now x)) ids ≡ result.bytes }
+        ensures same_commands { commands_total self.now ≡ result.commands }
+        ensures same_bytes { bytes_total self.now ≡ result.bytes }
+        ensures few { result.commands ≤ 2 ^ 20 }
+        ensures small { result.bytes ≤ 2 ^ 28 }
+    {
+        self.totals
+    }
+
+    /// Begins to record: what was recorded before is let go. After want of memory all is as before.
+    pub fn begin(&mut self, cb: u64, flags: u32) -> Result<(), WantMemory>
+        ensures ok { OnOk result (buffers self.new ≡ (λ x. if cb == x then record { state = State.recording; flags = flags; commands = [] } else buffers self.old x)) }
+        ensures err { OnErr result (self.new ≡ self.old) }
+    {
+        let Ok(()) = self.rows.reserve(1) else {
+            return Err(WantMemory);
+        };
+        let row = Recording::new(self.alloc, CbState::Recording, flags);
+        if let Some(before) = self.rows.replace(cb, row) {
+            self.totals = self.totals.without(&before);
+        }
+        Ok(())
+    }
+
+    /// Adds a command to a recording buffer. After want of memory all is as before.
+    pub fn add(&mut self, cb: u64, call: &Call<'_>) -> Result<(), WantMemory>
+        requires recording { IsTrue (is_recording (buffers self.old cb).state) }
+        requires spelled { HasSpelling 1 (event_of_call call.now) }
+        requires few { commands_total self.old + 1 ≤ 2 ^ 20 }
+        requires small { bytes_total self.old + length (spelling 1 (event_of_call call.now)) ≤ 2 ^ 28 }
+        ensures ok { OnOk result (buffers self.new ≡ (λ x. if cb == x then record (buffers self.old x) { commands = (buffers self.old x).commands ++ event_of_call call.now ∷ [] } else buffers self.old x)) }
+        ensures err { OnErr result (self.new ≡ self.old) }
+    {
+        let mut row = self.take(cb);
+        let added = row.commands.add(self.alloc, call);
+        self.put(cb, row);
+        added
+    }
+
+    /// Ends the recording of a recording buffer, which can be executed then.
+    pub fn end(&mut self, cb: u64)
+        requires { IsTrue (is_recording (buffers self.old cb).state) }
+        ensures { buffers self.new ≡ (λ x. if cb == x then record (buffers self.old x) { state = State.executable } else buffers self.old x) }
+    {
+        let mut row = self.take(cb);
+        row.state = CbState::Executable;
+        self.put(cb, row);
+    }
+
+    /// The buffer is as a new one.
+    pub fn reset(&mut self, cb: u64)
+        ensures { buffers self.new ≡ (λ x. if cb == x then new_buffer else buffers self.old x) }
+    {
+        if let Some(before) = self.rows.remove(cb) {
+            self.totals = self.totals.without(&before);
+        }
+    }
+
+    /// The buffer was executed: where it was begun to be executed once, it is invalid then.
+    pub fn executed(&mut self, cb: u64)
+        ensures { buffers self.new ≡ (λ x. invalidated (cb == x && is_once (buffers self.old x)) (buffers self.old x)) }
+    {
+        let Some(row) = self.rows.get(cb) else {
+            return;
+        };
+        if row.is_once() {
+            self.invalidate(cb);
+        }
+    }
+
+    /// All buffers of the pool are as new ones.
+    pub fn reset_pool(&mut self, pool: u64, objects: &Objects)
+        ensures { buffers self.new ≡ (λ x. if passes (is_in_pool pool) ((answers objects.now).live x) then new_buffer else buffers self.old x) }
+    {
+        self.reset_one(0, pool, objects);
+        let mut after = 0;
+        'rows: while let Some(cb) = self.next(after) {
+            self.reset_one(cb, pool, objects);
+            after = cb;
+        }
+    }
+
+    /// What the end of an object makes of all buffers: those that go with it are as new ones, and those that name a
+    /// resource which goes, or the memory under it, are invalid.
+    pub fn invalidate_users(&mut self, gone: u64, objects: &Objects)
+        ensures { buffers self.new ≡ (λ x. if is_gone (answers objects.now) gone x then new_buffer else buffer_after_end (answers objects.now) gone (buffers self.old x)) }
+    {
+        self.end_one(0, gone, objects);
+        let mut after = 0;
+        'rows: while let Some(cb) = self.next(after) {
+            self.end_one(cb, gone, objects);
+            after = cb;
+        }
+    }
+
+    /// The uses of a buffer; those of a buffer that isn't kept are none.
+    pub(crate) fn uses(&self, cb: u64) -> Option<&Uses>
+        ensures index { IfSome result (λ u. IsIndex u.now.table.map u.now.agrees (flat_map resources_of (buffers self.now cb).commands) (asked_in (buffers self.now) cb)) }
+        ensures none { IsNone result → asked_in (buffers self.now) cb ≡ [] }
+    {
+        match self.rows.get(cb) {
+            Some(row) => Some(row.commands.uses()),
+            None => None,
+        }
+    }
+
+    // The least kept buffer above an id.
+    fn next(&self, after: u64) -> Option<u64>
+        ensures { result ≡ least_above self.now after }
+    {
+        self.rows.next_above(after)
+    }
+
+    // The buffer is as a new one, where it is of the pool.
+    fn reset_one(&mut self, cb: u64, pool: u64, objects: &Objects)
+        ensures { buffers self.new ≡ (λ x. if cb == x then (if passes (is_in_pool pool) ((answers objects.now).live x) then new_buffer else buffers self.old x) else buffers self.old x) }
+    {
+        if is_in_pool(objects, pool, cb) {
+            self.reset(cb);
+        }
+    }
+
+    // What the end of an object makes of the buffer.
+    fn end_one(&mut self, cb: u64, gone: u64, objects: &Objects)
+        ensures { buffers self.new ≡ (λ x. if cb == x then (if is_gone (answers objects.now) gone x then new_buffer else buffer_after_end (answers objects.now) gone (buffers self.old x)) else buffers self.old x) }
+    {
+        if is_gone(objects, gone, cb) {
+            self.reset(cb);
+        } else if self.names_lost(cb, gone, objects) {
+            self.invalidate(cb);
+        }
+    }
+
+    // Whether a command of the buffer names a resource that is lost.
+    fn names_lost(&self, cb: u64, gone: u64, objects: &Objects) -> bool
+        ensures names { result ≡ list_any (λ c. list_any (is_lost (answers objects.now) gone) (resources_of c)) (buffers self.now cb).commands }
+        ensures kept { result ≡ true → IsSome (map.get self.now cb) }
+    {
+        match self.rows.get(cb) {
+            Some(row) => row.commands.names_lost(gone, objects),
+            None => false,
+        }
+    }
+
+    // A recording or executable buffer becomes invalid.
+    fn invalidate(&mut self, cb: u64)
+        requires { IsSome (map.get self.old cb) }
+        ensures { buffers self.new ≡ (λ x. if cb == x then invalidated true (buffers self.old x) else buffers self.old x) }
+    {
+        let mut row = self.take(cb);
+        row.invalidate();
+        self.put(cb, row);
+    }
+
+    // Takes out what is kept of a buffer. A new recording, which counts nothing, stands in its place until it is put back.
+    fn take(&mut self, cb: u64) -> Recording
+        requires { IsSome (map.get self.old cb) }
+        ensures value { map.get self.old cb ≡ Some result }
+        ensures still { IsSome (map.get self.new cb) }
+        ensures others { (row : Recording) → map.insert self.new cb row ≡ map.insert self.old cb row }
+        ensures commands { commands_total self.new + commands_in (buffer_of result) ≡ commands_total self.old }
+        ensures bytes { bytes_total self.new + bytes_in (buffer_of result) ≡ bytes_total self.old }
+        ensures few { commands_total self.old ≤ 2 ^ 20 }
+        ensures small { bytes_total self.old ≤ 2 ^ 28 }
+    {
+        let none = Recording::new(self.alloc, CbState::Initial, 0);
+        let Some(row) = self.rows.replace(cb, none) else {
+            unreachable!()
+        };
+        self.totals = self.totals.without(&row);
+        row
+    }
+
+    // Puts a recording in the place of what was kept of a buffer.
+    fn put(&mut self, cb: u64, row: Recording)
+        requires kept { IsSome (map.get self.old cb) }
+        requires few { commands_total self.old + commands_in (buffer_of row) ≤ 2 ^ 20 }
+        requires small { bytes_total self.old + bytes_in (buffer_of row) ≤ 2 ^ 28 }
+        ensures { self.new ≡ map.insert self.old cb row }
+    {
+        let totals = self.totals.with(&row);
+        let Some(before) = self.rows.replace(cb, row) else {
+            unreachable!()
+        };
+        self.totals = totals.without(&before);
+    }
+}

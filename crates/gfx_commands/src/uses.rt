@@ -1,0 +1,264 @@
+//! What the commands of a buffer ask of each resource that they name.
+ghost use Rattle.std.specs.Prelude.{◌≡◌, ◌+◌, ◌≤◌, ◌++◌, ◌∷◌, [], ℕ, List, true, length, map, is_some, OnOk};
+ghost use Rattle.std.specs.List.{list_any};
+ghost use Rattle.std.specs.FinMap as finmap;
+ghost use Rattle.gfx_table.specs.Slots.{least_above};
+ghost use Rattle.gfx_model.specs.Events.{event_of_call};
+ghost use Rattle.gfx_model.specs.Steps.{resources_of};
+ghost use Rattle.gfx_model.specs.Checks.{Layouts, layouts_of};
+ghost use Rattle.gfx_model.specs.Checks.Layouts.{stays, goes};
+ghost use Rattle.gfx_model.specs.After.{is_lost};
+ghost use Rattle.gfx_objects.specs.Objects.{answers};
+ghost use Rattle.gfx_commands.specs.Uses.{IsIndex, use_of, known, accepts, asked, lets_go, gone};
+
+use crate::lost::is_lost;
+use gfx_objects::Objects;
+use gfx_table::Table;
+use gfx_types::{Barrier, Call};
+use std::alloc::{AllocError, Global};
+
+/// What the commands ask of a resource: the layout that it must have before them, and the one that it has after them
+/// where they change it.
+#[derive(Clone, Copy, Debug, PartialEq, Eq)]
+pub(crate) struct Use {
+    pub(crate) wanted: Option<u32>,
+    pub(crate) left: Option<u32>,
+}
+
+/// A use for each resource that the commands name, and whether there are layouts with which they can be executed.
+#[derive(Drop)]
+pub(crate) struct Uses {
+    pub(crate) table: Table<Use>,
+    pub(crate) agrees: bool,
+}
+
+impl Use {
+    /// The layout that the image has by now, as far as the commands tell.
+    fn known(&self) -> Option<u32>
+        ensures { result ≡ known self.now }
+    {
+        self.left.or(self.wanted)
+    }
+
+    /// Whether the commands so far leave the image in this layout, or may do so.
+    fn accepts(&self, layout: u32) -> bool
+        ensures { result ≡ accepts self.now layout }
+    {
+        match self.known() {
+            Some(known) => known == layout,
+            None => true,
+        }
+    }
+
+    /// The use of an image that is asked for in this layout.
+    fn asked(self, layout: u32) -> Use
+        ensures { result ≡ asked self layout }
+    {
+        match self.known() {
+            Some(_) => self,
+            None => Use {
+                wanted: Some(layout),
+                ..self
+            },
+        }
+    }
+
+    /// Whether a barrier may take the image from this layout.
+    fn lets_go(&self, before: u32) -> bool
+        ensures { result ≡ lets_go self.now before }
+    {
+        before == 0 || self.accepts(before)
+    }
+
+    /// The use of an image that a barrier takes from one layout to another.
+    fn gone(self, before: u32, after: u32) -> Use
+        ensures { result ≡ gone self before after }
+    {
+        let asked = if before == 0 {
+            self
+        } else {
+            self.asked(before)
+        };
+        Use {
+            left: Some(after),
+            ..asked
+        }
+    }
+}
+
+impl Uses {
+    /// No resources.
+    pub(crate) fn new(alloc: Global) -> Self
+        ensures { IsIndex result.table.map result.agrees [] [] }
+    {
+        Uses {
+            table: Table::new(alloc),
+            agrees: true,
+        }
+    }
+
+    /// What is asked of the resource.
+    pub(crate) fn get(&self, id: u64) -> Use
+        ensures { result ≡ use_of self.now.table.map id }
+    {
+        match self.table.get(id) {
+            Some(used) => *used,
+            None => Use {
+                wanted: None,
+                left: None,
+            },
+        }
+    }
+
+    /// Makes room for so many new resources.
+    pub(crate) fn reserve(&mut self, more: usize) -> Result<(), AllocError>
+        ensures map { self.new.table.map ≡ self.old.table.map }
+        ensures agrees { self.new.agrees ≡ self.old.agrees }
+        ensures ok { OnOk result (more ≤ self.new.table.spare) }
+    {
+        self.table.reserve(more)
+    }
+
+    // A resource that is named.
+    fn name(&mut self, id: u64)
+        requires { 1 ≤ self.old.table.spare }
+        ensures index { (named : List ℕ) (asks : List Layouts) → IsIndex self.old.table.map self.old.agrees named asks
+            → IsIndex self.new.table.map self.new.agrees (named ++ id ∷ []) asks }
+        ensures spare { self.old.table.spare ≤ self.new.table.spare + 1 }
+    {
+        let used = self.get(id);
+        self.table.set(id, used);
+    }
+
+    // An image that must have a layout.
+    fn ask(&mut self, image: u64, layout: u32)
+        requires { 1 ≤ self.old.table.spare }
+        ensures index { (named : List ℕ) (asks : List Layouts) → IsIndex self.old.table.map self.old.agrees named asks
+            → IsIndex self.new.table.map self.new.agrees (named ++ image ∷ []) (asks ++ stays image layout ∷ []) }
+        ensures spare { self.old.table.spare ≤ self.new.table.spare + 1 }
+    {
+        let used = self.get(image);
+        self.agrees = self.agrees && used.accepts(layout);
+        self.table.set(image, used.asked(layout));
+    }
+
+    // An image that a barrier takes from one layout to another.
+    fn change(&mut self, image: u64, before: u32, after: u32)
+        requires { 1 ≤ self.old.table.spare }
+        ensures index { (named : List ℕ) (asks : List Layouts) → IsIndex self.old.table.map self.old.agrees named asks
+            → IsIndex self.new.table.map self.new.agrees (named ++ image ∷ []) (asks ++ goes image before after ∷ []) }
+        ensures spare { self.old.table.spare ≤ self.new.table.spare + 1 }
+    {
+        let used = self.get(image);
+        self.agrees = self.agrees && used.lets_go(before);
+        self.table.set(image, used.gone(before, after));
+    }
+
+    // The images of barriers, each taken from one layout to another.
+    fn change_all(&mut self, barriers: &[Barrier])
+        requires { length barriers.now ≤ self.old.table.spare }
+        ensures { (named : List ℕ) (asks : List Layouts) → IsIndex self.old.table.map self.old.agrees named asks
+            → IsIndex self.new.table.map self.new.agrees (named ++ map (λ b. b.image) barriers.now) (asks ++ map (λ b. goes b.image b.before b.after) barriers.now) }
+    {
+        for barrier in barriers {
+            self.change(barrier.image, barrier.before, barrier.after);
+        }
+    }
+
+    /// The resources and layouts of a command. It takes a spare place for each resource that the command names.
+    #[tactic(auto, unfolding(gfx_model::specs::Steps::resources_of, gfx_model::specs::Checks::layouts_of))]
+    pub(crate) fn add(&mut self, call: &Call<'_>)
+        requires { length (resources_of (event_of_call call.now)) ≤ self.old.table.spare }
+        ensures { (named : List ℕ) (asks : List Layouts) → IsIndex self.old.table.map self.old.agrees named asks
+            → IsIndex self.new.table.map self.new.agrees (named ++ resources_of (event_of_call call.now)) (asks ++ layouts_of (event_of_call call.now)) }
+    {
+        match call {
+            Call::CmdPipelineBarrier { barriers, .. } => self.change_all(barriers.items()),
+            Call::CmdFillBuffer { buffer, .. } => self.name(*buffer),
+            Call::CmdUpdateBuffer { buffer, .. } => self.name(*buffer),
+            Call::CmdCopyBuffer { source, target, .. } => {
+                self.name(*source);
+                self.name(*target);
+            }
+            Call::CmdCopyImage {
+                source,
+                source_layout,
+                target,
+                target_layout,
+                ..
+            } => {
+                self.ask(*source, *source_layout);
+                self.ask(*target, *target_layout);
+            }
+            Call::CmdCopyBufferToImage {
+                source,
+                target,
+                layout,
+                ..
+            } => {
+                self.name(*source);
+                self.ask(*target, *layout);
+            }
+            Call::CmdCopyImageToBuffer {
+                source,
+                layout,
+                target,
+                ..
+            } => {
+                self.ask(*source, *layout);
+                self.name(*target);
+            }
+            Call::CmdClearColorImage { image, layout, .. } => self.ask(*image, *layout),
+            _ => {}
+        }
+    }
+
+    /// The least resource above an id.
+    pub(crate) fn next(&self, after: u64) -> Option<u64>
+        ensures { result ≡ least_above self.now.table.map after }
+    {
+        self.table.next_above(after)
+    }
+
+    // Whether the resource is named.
+    fn names(&self, id: u64) -> bool
+        ensures { result ≡ is_some (finmap.get self.now.table.map id) }
+    {
+        self.table.get(id).is_some()
+    }
+
+    /// Whether a resource is lost where `gone` ends.
+    pub(crate) fn names_lost(&self, gone: u64, objects: &Objects) -> bool
+        ensures { (named : List ℕ) (asks : List Layouts) → IsIndex self.now.table.map self.now.agrees named asks → result ≡ list_any (is_lost (answers objects.now) gone) named }
+    {
+        if self.names(0) && is_lost(objects, gone, 0) {
+            return true;
+        }
+        let mut after = 0;
+        'ids: while let Some(id) = self.next(after) {
+            if is_lost(objects, gone, id) {
+                return true;
+            }
+            after = id;
+        }
+        false
+    }
+}
+
+/// How many resources the command names.
+#[tactic(auto, unfolding(gfx_model::specs::Steps::resources_of))]
+pub(crate) fn resources_in(call: &Call<'_>) -> usize
+    ensures { result ≡ length (resources_of (event_of_call call.now)) }
+{
+    match call {
+        Call::CmdPipelineBarrier { barriers, .. } => barriers.items().len(),
+        Call::CmdFillBuffer { .. }
+        | Call::CmdUpdateBuffer { .. }
+        | Call::CmdClearColorImage { .. } => 1,
+        Call::CmdCopyBuffer { .. }
+        | Call::CmdCopyImage { .. }
+        | Call::CmdCopyBufferToImage { .. }
+        | Call::CmdCopyImageToBuffer { .. } => 2,
+        _ => 0,
+    }
+}
