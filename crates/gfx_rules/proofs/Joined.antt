@@ -1,0 +1,29 @@
+-- The first fault of checks that stand one list after another.
+use Rattle.std.proofs.Common.{◌≡◌, List, [], ◌∷◌, ◌++◌, Option, Some, None, refl, sym, ap, ◌∙◌}
+use Rattle.gfx_types.specs.declared.names.Fault.{Fault}
+use Rattle.gfx_model.specs.Views.{View}
+use Rattle.gfx_model.specs.Checks.{Check, first, broken, first_broken}
+
+first_assoc : (a b c : Option Fault) → first (first a b) c ≡ first a (first b c)
+first_assoc (Some f) b c = refl
+first_assoc None b c = refl
+
+pub appended : (v : View) (xs ys : List Check) → first_broken v (xs ++ ys) ≡ first (first_broken v xs) (first_broken v ys)
+appended v [] ys = refl
+appended v (x ∷ xs) ys = ap (first (broken v x)) (appended v xs ys) ∙ sym (first_assoc (broken v x) (first_broken v xs) (first_broken v ys))
+
+-- the front of a row is broken
+pub stops : (v : View) (front more row : List Check) (f : Fault) → Some f ≡ first_broken v front → row ≡ front ++ more → Some f ≡ first_broken v row
+stops v front more row f e is = ap (λ x. first x (first_broken v more)) e ∙ sym (appended v front more) ∙ ap (first_broken v) (sym is)
+
+-- the front of a row is whole
+pub goes_on : (v : View) (front more row : List Check) (o : Option Fault) → None ≡ first_broken v front → o ≡ first_broken v more
+    → row ≡ front ++ more → o ≡ first_broken v row
+goes_on v front more row o e f is =
+    f ∙ ap (λ x. first x (first_broken v more)) e ∙ sym (appended v front more) ∙ ap (first_broken v) (sym is)
+
+-- the faults of two parts
+pub joins : (v : View) (xs ys row : List Check) (a b o : Option Fault) → a ≡ first_broken v xs → b ≡ first_broken v ys → o ≡ first a b
+    → row ≡ xs ++ ys → o ≡ first_broken v row
+joins v xs ys row a b o e f is same =
+    is ∙ ap (λ x. first x b) e ∙ ap (first (first_broken v xs)) f ∙ sym (appended v xs ys) ∙ ap (first_broken v) (sym same)
