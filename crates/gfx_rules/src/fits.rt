@@ -30,7 +30,14 @@ pub fn barriers_fit<A: Answers>(answers: &A, cb: u64, barriers: &[Barrier]) -> O
 
 /// 28 unless there is room to keep a CmdFillBuffer.
 #[tactic(auto, using(crate::proofs::Sizes::fill_size))]
-pub fn fill_fits<A: Answers>(answers: &A, cb: u64, buffer: u64, offset: u64, size: u64, word: u32) -> Option<Fault>
+pub fn fill_fits<A: Answers>(
+    answers: &A,
+    cb: u64,
+    buffer: u64,
+    offset: u64,
+    size: u64,
+    word: u32,
+) -> Option<Fault>
     ensures { result ≡ words.first_broken (A.view answers.now) (words.Check.fits (length (spelling 1 (CmdFillBuffer cb buffer offset size word))) ∷ []) }
 {
     first_broken(answers, &[Check::Fits(36)])
@@ -38,7 +45,13 @@ pub fn fill_fits<A: Answers>(answers: &A, cb: u64, buffer: u64, offset: u64, siz
 
 /// 28 unless there is room to keep a CmdUpdateBuffer.
 #[tactic(auto, using(crate::proofs::Sizes::update_size))]
-pub fn update_fits<A: Answers>(answers: &A, cb: u64, buffer: u64, offset: u64, bytes: &[u8]) -> Option<Fault>
+pub fn update_fits<A: Answers>(
+    answers: &A,
+    cb: u64,
+    buffer: u64,
+    offset: u64,
+    bytes: &[u8],
+) -> Option<Fault>
     ensures { result ≡ words.first_broken (A.view answers.now) (words.Check.fits (length (spelling 1 (CmdUpdateBuffer cb buffer offset bytes.now))) ∷ []) }
 {
     let size = 32 + bytes.len() as u128;
@@ -47,7 +60,13 @@ pub fn update_fits<A: Answers>(answers: &A, cb: u64, buffer: u64, offset: u64, b
 
 /// 28 unless there is room to keep a CmdCopyBuffer.
 #[tactic(auto, using(crate::proofs::Sizes::copies_size))]
-pub fn copies_fit<A: Answers>(answers: &A, cb: u64, source: u64, target: u64, regions: &[BufferRegion]) -> Option<Fault>
+pub fn copies_fit<A: Answers>(
+    answers: &A,
+    cb: u64,
+    source: u64,
+    target: u64,
+    regions: &[BufferRegion],
+) -> Option<Fault>
     ensures { result ≡ words.first_broken (A.view answers.now) (words.Check.fits (length (spelling 1 (CmdCopyBuffer cb source target regions.now))) ∷ []) }
 {
     let bytes = listed(24, regions.len(), 24);
@@ -56,7 +75,15 @@ pub fn copies_fit<A: Answers>(answers: &A, cb: u64, source: u64, target: u64, re
 
 /// 28 unless there is room to keep a CmdCopyImage.
 #[tactic(auto, using(crate::proofs::Sizes::image_copies_size))]
-pub fn image_copies_fit<A: Answers>(answers: &A, cb: u64, source: u64, source_layout: u32, target: u64, target_layout: u32, regions: &[ImageRegion]) -> Option<Fault>
+pub fn image_copies_fit<A: Answers>(
+    answers: &A,
+    cb: u64,
+    source: u64,
+    source_layout: u32,
+    target: u64,
+    target_layout: u32,
+    regions: &[ImageRegion],
+) -> Option<Fault>
     ensures { result ≡ words.first_broken (A.view answers.now) (words.Check.fits (length (spelling 1 (CmdCopyImage cb source source_layout target target_layout regions.now))) ∷ []) }
 {
     let bytes = listed(32, regions.len(), 24);
@@ -65,7 +92,14 @@ pub fn image_copies_fit<A: Answers>(answers: &A, cb: u64, source: u64, source_la
 
 /// 28 unless there is room to keep a CmdCopyBufferToImage.
 #[tactic(auto, using(crate::proofs::Sizes::uploads_size))]
-pub fn uploads_fit<A: Answers>(answers: &A, cb: u64, source: u64, target: u64, layout: u32, regions: &[MixedRegion]) -> Option<Fault>
+pub fn uploads_fit<A: Answers>(
+    answers: &A,
+    cb: u64,
+    source: u64,
+    target: u64,
+    layout: u32,
+    regions: &[MixedRegion],
+) -> Option<Fault>
     ensures { result ≡ words.first_broken (A.view answers.now) (words.Check.fits (length (spelling 1 (CmdCopyBufferToImage cb source target layout regions.now))) ∷ []) }
 {
     let bytes = listed(28, regions.len(), 32);
@@ -74,7 +108,14 @@ pub fn uploads_fit<A: Answers>(answers: &A, cb: u64, source: u64, target: u64, l
 
 /// 28 unless there is room to keep a CmdCopyImageToBuffer.
 #[tactic(auto, using(crate::proofs::Sizes::downloads_size))]
-pub fn downloads_fit<A: Answers>(answers: &A, cb: u64, source: u64, layout: u32, target: u64, regions: &[MixedRegion]) -> Option<Fault>
+pub fn downloads_fit<A: Answers>(
+    answers: &A,
+    cb: u64,
+    source: u64,
+    layout: u32,
+    target: u64,
+    regions: &[MixedRegion],
+) -> Option<Fault>
     ensures { result ≡ words.first_broken (A.view answers.now) (words.Check.fits (length (spelling 1 (CmdCopyImageToBuffer cb source layout target regions.now))) ∷ []) }
 {
     let bytes = listed(28, regions.len(), 32);
@@ -83,7 +124,16 @@ pub fn downloads_fit<A: Answers>(answers: &A, cb: u64, source: u64, layout: u32,
 
 /// 28 unless there is room to keep a CmdClearColorImage.
 #[tactic(auto, using(crate::proofs::Sizes::clear_size))]
-pub fn clear_fits<A: Answers>(answers: &A, cb: u64, image: u64, layout: u32, c0: u32, c1: u32, c2: u32, c3: u32) -> Option<Fault>
+pub fn clear_fits<A: Answers>(
+    answers: &A,
+    cb: u64,
+    image: u64,
+    layout: u32,
+    c0: u32,
+    c1: u32,
+    c2: u32,
+    c3: u32,
+) -> Option<Fault>
     ensures { result ≡ words.first_broken (A.view answers.now) (words.Check.fits (length (spelling 1 (CmdClearColorImage cb image layout c0 c1 c2 c3))) ∷ []) }
 {
     first_broken(answers, &[Check::Fits(36)])

@@ -24,11 +24,7 @@ use crate::values::{both, either, is_either, sum};
 use gfx_types::{Barrier, BufferRegion, Fault, ImageRegion, Kind, MixedRegion};
 
 /// The fault of CmdPipelineBarrier.
-pub fn cmd_pipeline_barrier<A: Answers>(
-    answers: &A,
-    cb: u64,
-    barriers: &[Barrier],
-) -> Option<Fault>
+pub fn cmd_pipeline_barrier<A: Answers>(answers: &A, cb: u64, barriers: &[Barrier]) -> Option<Fault>
     ensures { result ≡ words.first_broken (A.view answers.now) (row_of (CmdPipelineBarrier cb barriers.now)) }
 {
     let front = first_broken(
@@ -154,7 +150,15 @@ pub fn cmd_copy_buffer<A: Answers>(
         Check::Must(Fault::BadValue, 1 <= regions.len()),
         Check::Must(Fault::LimitReached, regions.len() <= 256),
     ];
-    match copy_front(answers, cb, Kind::Buffer, source, Kind::Buffer, target, &own) {
+    match copy_front(
+        answers,
+        cb,
+        Kind::Buffer,
+        source,
+        Kind::Buffer,
+        target,
+        &own,
+    ) {
         Some(fault) => Some(fault),
         None => {
             let sizes = buffer_sizes(answers, regions);
@@ -193,7 +197,15 @@ pub fn cmd_copy_image<A: Answers>(
             let items = first(extents, image_regions_in(answers, source, target, regions));
             first(
                 items,
-                image_copies_fit(answers, cb, source, source_layout, target, target_layout, regions),
+                image_copies_fit(
+                    answers,
+                    cb,
+                    source,
+                    source_layout,
+                    target,
+                    target_layout,
+                    regions,
+                ),
             )
         }
     }
@@ -232,7 +244,10 @@ pub fn cmd_copy_buffer_to_image<A: Answers>(
         Some(fault) => Some(fault),
         None => {
             let items = mixed_fault(answers, source, target, regions);
-            first(items, uploads_fit(answers, cb, source, target, layout, regions))
+            first(
+                items,
+                uploads_fit(answers, cb, source, target, layout, regions),
+            )
         }
     }
 }
@@ -257,7 +272,10 @@ pub fn cmd_copy_image_to_buffer<A: Answers>(
         Some(fault) => Some(fault),
         None => {
             let items = mixed_fault(answers, target, source, regions);
-            first(items, downloads_fit(answers, cb, source, layout, target, regions))
+            first(
+                items,
+                downloads_fit(answers, cb, source, layout, target, regions),
+            )
         }
     }
 }
@@ -288,5 +306,8 @@ pub fn cmd_clear_color_image<A: Answers>(
             Check::UintFormat(image),
         ],
     );
-    first(front, clear_fits(answers, cb, image, layout, c0, c1, c2, c3))
+    first(
+        front,
+        clear_fits(answers, cb, image, layout, c0, c1, c2, c3),
+    )
 }
