@@ -1,6 +1,6 @@
 //! The rows of commands.
 
-ghost use Rattle.std.specs.Prelude.{◌≡◌, ◌++◌, ◌∷◌, [], map, flat_map};
+ghost use Rattle.std.specs.Prelude.{◌≡◌, ◌+◌, ◌==◌, ◌&&◌, ◌||◌, ◌++◌, ◌∷◌, [], nat_le, map, flat_map};
 ghost use Rattle.gfx_types.specs.declared.names.Kind.TheVariants as kind;
 ghost use Rattle.gfx_model.specs.Events.Event.{CmdPipelineBarrier, CmdFillBuffer, CmdUpdateBuffer, CmdCopyBuffer, CmdCopyImage, CmdCopyBufferToImage, CmdCopyImageToBuffer, CmdClearColorImage};
 ghost use Rattle.gfx_model.specs.Table as table;
@@ -46,32 +46,21 @@ pub fn cmd_pipeline_barrier<A: Answers>(answers: &A, cb: u64, barriers: &[Barrie
     }
 }
 
-/// The fault of CmdFillBuffer.
-pub fn cmd_fill_buffer<A: Answers>(
+/// The front of CmdFillBuffer, up to its range.
+fn fill_front<A: Answers>(
     answers: &A,
     cb: u64,
     buffer: u64,
     offset: u64,
     size: u64,
-    word: u32,
 ) -> Option<Fault>
-    ensures { result ≡ words.first_broken (A.view answers.now) (row_of (CmdFillBuffer cb buffer offset size word)) }
+    ensures { result ≡ words.first_broken (A.view answers.now) (words.Check.live kind.CommandBuffer cb ∷ words.Check.recording cb ∷ table.res kind.Buffer cb buffer
+        ++ table.dst buffer ∷ table.value (table.divides 4 offset && (size == table.whole || nat_le 4 size && table.divides 4 size)) ∷ []) }
 {
     let fine = both(
         offset % 4 == 0,
         either(size == u64::MAX, both(4 <= size, size % 4 == 0)),
     );
-    let front = target_fault(answers, cb, buffer, fine);
-    let range = span(answers, buffer, offset, size);
-    let room = fill_fits(answers, cb, buffer, offset, size, word);
-    first(front, first(range, room))
-}
-
-/// The front of a command that writes a buffer.
-fn target_fault<A: Answers>(answers: &A, cb: u64, buffer: u64, fine: bool) -> Option<Fault>
-    ensures { result ≡ words.first_broken (A.view answers.now) (words.Check.live kind.CommandBuffer cb ∷ words.Check.recording cb
-        ∷ table.res kind.Buffer cb buffer ++ table.dst buffer ∷ table.value fine ∷ []) }
-{
     first_broken(
         answers,
         &[
@@ -86,6 +75,53 @@ fn target_fault<A: Answers>(answers: &A, cb: u64, buffer: u64, fine: bool) -> Op
     )
 }
 
+/// The fault of CmdFillBuffer.
+pub fn cmd_fill_buffer<A: Answers>(
+    answers: &A,
+    cb: u64,
+    buffer: u64,
+    offset: u64,
+    size: u64,
+    word: u32,
+) -> Option<Fault>
+    ensures { result ≡ words.first_broken (A.view answers.now) (row_of (CmdFillBuffer cb buffer offset size word)) }
+{
+    let front = fill_front(answers, cb, buffer, offset, size);
+    let range = span(answers, buffer, offset, size);
+    let room = fill_fits(answers, cb, buffer, offset, size, word);
+    first(front, first(range, room))
+}
+
+/// The front of CmdUpdateBuffer, all but the room for it.
+fn update_front<A: Answers>(
+    answers: &A,
+    cb: u64,
+    buffer: u64,
+    offset: u64,
+    count: u64,
+) -> Option<Fault>
+    ensures { result ≡ words.first_broken (A.view answers.now) (words.Check.live kind.CommandBuffer cb ∷ words.Check.recording cb ∷ table.res kind.Buffer cb buffer
+        ++ table.dst buffer ∷ table.value (table.divides 4 offset && table.divides 4 count && nat_le 4 count && nat_le count 65536)
+        ∷ words.Check.ends_in buffer (offset + count) ∷ []) }
+{
+    let whole = both(offset % 4 == 0, count % 4 == 0);
+    let fine = both(both(whole, 4 <= count), count <= 65536);
+    let end = sum(offset, count);
+    first_broken(
+        answers,
+        &[
+            Check::Live(Kind::CommandBuffer, cb),
+            Check::Recording(cb),
+            Check::Live(Kind::Buffer, buffer),
+            Check::Near(buffer, cb),
+            Check::Usable(buffer),
+            Check::MayUse(buffer, 2),
+            Check::Must(Fault::BadValue, fine),
+            Check::EndsIn(buffer, end),
+        ],
+    )
+}
+
 /// The fault of CmdUpdateBuffer.
 pub fn cmd_update_buffer<A: Answers>(
     answers: &A,
@@ -96,13 +132,8 @@ pub fn cmd_update_buffer<A: Answers>(
 ) -> Option<Fault>
     ensures { result ≡ words.first_broken (A.view answers.now) (row_of (CmdUpdateBuffer cb buffer offset bytes.now)) }
 {
-    let count = bytes.len() as u64;
-    let whole = both(offset % 4 == 0, count % 4 == 0);
-    let fine = both(both(whole, 4 <= count), count <= 65536);
-    let front = target_fault(answers, cb, buffer, fine);
-    let range = first_broken(answers, &[Check::EndsIn(buffer, sum(offset, count))]);
-    let room = update_fits(answers, cb, buffer, offset, bytes);
-    first(front, first(range, room))
+    let front = update_front(answers, cb, buffer, offset, bytes.len() as u64);
+    first(front, update_fits(answers, cb, buffer, offset, bytes))
 }
 
 /// The front of a copy: that of all copies, and what is its own.
@@ -168,6 +199,34 @@ pub fn cmd_copy_buffer<A: Answers>(
     }
 }
 
+/// The front of CmdCopyImage, up to its regions.
+fn images_front<A: Answers>(
+    answers: &A,
+    cb: u64,
+    source: u64,
+    source_layout: u32,
+    target: u64,
+    target_layout: u32,
+    count: usize,
+) -> Option<Fault>
+    ensures { result ≡ words.first_broken (A.view answers.now) (words.Check.live kind.CommandBuffer cb ∷ words.Check.recording cb
+        ∷ table.copied cb kind.Image source kind.Image target
+        ++ table.value (words.is_among source_layout (6 ∷ 1 ∷ []) && words.is_among target_layout (7 ∷ 1 ∷ [])) ∷ words.Check.same_texel source target
+        ∷ table.value (nat_le 1 count) ∷ table.limit (nat_le count 256) ∷ []) }
+{
+    let fine = both(
+        is_either(source_layout, 6, 1),
+        is_either(target_layout, 7, 1),
+    );
+    let own = [
+        Check::Must(Fault::BadValue, fine),
+        Check::SameTexel(source, target),
+        Check::Must(Fault::BadValue, 1 <= count),
+        Check::Must(Fault::LimitReached, count <= 256),
+    ];
+    copy_front(answers, cb, Kind::Image, source, Kind::Image, target, &own)
+}
+
 /// The fault of CmdCopyImage.
 pub fn cmd_copy_image<A: Answers>(
     answers: &A,
@@ -180,17 +239,15 @@ pub fn cmd_copy_image<A: Answers>(
 ) -> Option<Fault>
     ensures { result ≡ words.first_broken (A.view answers.now) (row_of (CmdCopyImage cb source source_layout target target_layout regions.now)) }
 {
-    let fine = both(
-        is_either(source_layout, 6, 1),
-        is_either(target_layout, 7, 1),
-    );
-    let own = [
-        Check::Must(Fault::BadValue, fine),
-        Check::SameTexel(source, target),
-        Check::Must(Fault::BadValue, 1 <= regions.len()),
-        Check::Must(Fault::LimitReached, regions.len() <= 256),
-    ];
-    match copy_front(answers, cb, Kind::Image, source, Kind::Image, target, &own) {
+    match images_front(
+        answers,
+        cb,
+        source,
+        source_layout,
+        target,
+        target_layout,
+        regions.len(),
+    ) {
         Some(fault) => Some(fault),
         None => {
             let extents = image_extents(answers, regions);
@@ -209,6 +266,30 @@ pub fn cmd_copy_image<A: Answers>(
             )
         }
     }
+}
+
+/// The front of a copy between a buffer and an image, up to its regions. The image's layout is the usual one, or GENERAL.
+fn mixed_front<A: Answers>(
+    answers: &A,
+    cb: u64,
+    of: Kind,
+    source: u64,
+    to: Kind,
+    target: u64,
+    layout: u32,
+    usual: u32,
+    count: usize,
+) -> Option<Fault>
+    ensures { result ≡ words.first_broken (A.view answers.now) (words.Check.live kind.CommandBuffer cb ∷ words.Check.recording cb
+        ∷ table.copied cb of source to target ++ table.value (words.is_among layout (usual ∷ 1 ∷ []))
+        ∷ table.value (nat_le 1 count) ∷ table.limit (nat_le count 256) ∷ []) }
+{
+    let own = [
+        Check::Must(Fault::BadValue, is_either(layout, usual, 1)),
+        Check::Must(Fault::BadValue, 1 <= count),
+        Check::Must(Fault::LimitReached, count <= 256),
+    ];
+    copy_front(answers, cb, of, source, to, target, &own)
 }
 
 /// The regions of a copy between a buffer and an image.
@@ -235,12 +316,18 @@ pub fn cmd_copy_buffer_to_image<A: Answers>(
 ) -> Option<Fault>
     ensures { result ≡ words.first_broken (A.view answers.now) (row_of (CmdCopyBufferToImage cb source target layout regions.now)) }
 {
-    let own = [
-        Check::Must(Fault::BadValue, is_either(layout, 7, 1)),
-        Check::Must(Fault::BadValue, 1 <= regions.len()),
-        Check::Must(Fault::LimitReached, regions.len() <= 256),
-    ];
-    match copy_front(answers, cb, Kind::Buffer, source, Kind::Image, target, &own) {
+    let count = regions.len();
+    match mixed_front(
+        answers,
+        cb,
+        Kind::Buffer,
+        source,
+        Kind::Image,
+        target,
+        layout,
+        7,
+        count,
+    ) {
         Some(fault) => Some(fault),
         None => {
             let items = mixed_fault(answers, source, target, regions);
@@ -263,12 +350,18 @@ pub fn cmd_copy_image_to_buffer<A: Answers>(
 ) -> Option<Fault>
     ensures { result ≡ words.first_broken (A.view answers.now) (row_of (CmdCopyImageToBuffer cb source layout target regions.now)) }
 {
-    let own = [
-        Check::Must(Fault::BadValue, is_either(layout, 6, 1)),
-        Check::Must(Fault::BadValue, 1 <= regions.len()),
-        Check::Must(Fault::LimitReached, regions.len() <= 256),
-    ];
-    match copy_front(answers, cb, Kind::Image, source, Kind::Buffer, target, &own) {
+    let count = regions.len();
+    match mixed_front(
+        answers,
+        cb,
+        Kind::Image,
+        source,
+        Kind::Buffer,
+        target,
+        layout,
+        6,
+        count,
+    ) {
         Some(fault) => Some(fault),
         None => {
             let items = mixed_fault(answers, target, source, regions);
@@ -278,6 +371,26 @@ pub fn cmd_copy_image_to_buffer<A: Answers>(
             )
         }
     }
+}
+
+/// The front of CmdClearColorImage, all but the room for it.
+fn clear_front<A: Answers>(answers: &A, cb: u64, image: u64, layout: u32) -> Option<Fault>
+    ensures { result ≡ words.first_broken (A.view answers.now) (words.Check.live kind.CommandBuffer cb ∷ words.Check.recording cb ∷ table.res kind.Image cb image
+        ++ table.dst image ∷ table.value (words.is_among layout (7 ∷ 1 ∷ [])) ∷ words.Check.uint_format image ∷ []) }
+{
+    first_broken(
+        answers,
+        &[
+            Check::Live(Kind::CommandBuffer, cb),
+            Check::Recording(cb),
+            Check::Live(Kind::Image, image),
+            Check::Near(image, cb),
+            Check::Usable(image),
+            Check::MayUse(image, 2),
+            Check::Must(Fault::BadValue, is_either(layout, 7, 1)),
+            Check::UintFormat(image),
+        ],
+    )
 }
 
 /// The fault of CmdClearColorImage.
@@ -293,19 +406,7 @@ pub fn cmd_clear_color_image<A: Answers>(
 ) -> Option<Fault>
     ensures { result ≡ words.first_broken (A.view answers.now) (row_of (CmdClearColorImage cb image layout c0 c1 c2 c3)) }
 {
-    let front = first_broken(
-        answers,
-        &[
-            Check::Live(Kind::CommandBuffer, cb),
-            Check::Recording(cb),
-            Check::Live(Kind::Image, image),
-            Check::Near(image, cb),
-            Check::Usable(image),
-            Check::MayUse(image, 2),
-            Check::Must(Fault::BadValue, is_either(layout, 7, 1)),
-            Check::UintFormat(image),
-        ],
-    );
+    let front = clear_front(answers, cb, image, layout);
     first(
         front,
         clear_fits(answers, cb, image, layout, c0, c1, c2, c3),
