@@ -27,10 +27,10 @@ both all ids i x h e =
     at_drop_more (same_list (drop i all)) ids i 0 h
     ∙ ap (λ xs. same_list xs (get_or ids i 0 ∷ drop (i + 1) ids)) (some_left all i x e ∙ ap (λ n. x ∷ drop n all) (sym (add-one i)))
 
-differ : (x y : ℕ) → x ≢ y → (x == y) ≡ false
+pub differ : (x y : ℕ) → x ≢ y → (x == y) ≡ false
 differ x y h = grind (arith, nat_tests)
 
-one : (x y : ℕ) → x ≡ y → (x == y) ≡ true
+pub one : (x y : ℕ) → x ≡ y → (x == y) ≡ true
 one x y h = grind (arith, nat_tests)
 
 pub other : (all ids : List ℕ) (i x : ℕ) (is : Bool) → i < length ids → Some x ≡ slice_get all i → x ≢ get_or ids i 0 → same_list (drop i all) (drop i ids) ≡ is → false ≡ is

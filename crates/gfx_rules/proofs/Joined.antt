@@ -5,7 +5,7 @@ use Rattle.gfx_types.specs.declared.names.Fault.{Fault}
 use Rattle.gfx_model.specs.Views.{View}
 use Rattle.gfx_model.specs.Checks.{Check, first, broken, first_broken}
 
-first_assoc : (a b c : Option Fault) → first (first a b) c ≡ first a (first b c)
+pub first_assoc : (a b c : Option Fault) → first (first a b) c ≡ first a (first b c)
 first_assoc (Some f) b c = refl
 first_assoc None b c = refl
 

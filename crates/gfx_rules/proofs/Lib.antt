@@ -2,3 +2,5 @@ pub mod Sizes
 pub mod Joined
 pub mod New
 pub mod Fetched
+pub mod Signals
+pub mod Executed

@@ -16,7 +16,7 @@ pub fn is_among(ids: &[u64], id: u64) -> bool
 }
 
 /// Whether an id stands in a list whose greatest number is known, or a greater one.
-fn is_among_least(ids: &[u64], greatest: u64, id: u64) -> bool
+pub fn is_among_least(ids: &[u64], greatest: u64, id: u64) -> bool
     requires { (x : ℕ) → greatest < x → words.is_among x ids.now ≡ false }
     ensures { result ≡ words.is_among id ids.now }
 {

@@ -19,6 +19,7 @@ mod rows_queue;
 mod rows_signals;
 mod rows_swapchains;
 mod spans;
+mod turns;
 mod values;
 
 pub use answers::Answers;

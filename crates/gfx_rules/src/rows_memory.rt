@@ -1,13 +1,14 @@
 //! The rows of calls on memory, buffers and images.
 
 ghost use Rattle.std.specs.Prelude.{◌≡◌};
-ghost use Rattle.gfx_model.specs.Events.Event.{AllocateMemory, FreeMemory, UnmapMemory, CreateBuffer, DestroyBuffer, BindBufferMemory, CreateImage, DestroyImage, BindImageMemory};
+ghost use Rattle.gfx_model.specs.Events.Event.{AllocateMemory, FreeMemory, MapMemory, UnmapMemory, CreateBuffer, DestroyBuffer, BindBufferMemory, CreateImage, DestroyImage, BindImageMemory};
 ghost use Rattle.gfx_model.specs.Table.{row_of};
 ghost use Rattle.gfx_model.specs.Checks as words;
 
 use crate::answers::Answers;
 use crate::broken::first_broken;
-use crate::checks::Check;
+use crate::checks::{Check, first};
+use crate::spans::span;
 use crate::values::{both, is_image};
 use gfx_types::{Fault, Kind};
 
@@ -46,6 +47,30 @@ pub fn free_memory<A: Answers>(answers: &A, device: u64, memory: u64) -> Option<
             Check::Of(memory, device),
         ],
     )
+}
+
+/// The fault of MapMemory.
+pub fn map_memory<A: Answers>(
+    answers: &A,
+    device: u64,
+    memory: u64,
+    offset: u64,
+    size: u64,
+) -> Option<Fault>
+    ensures { result ≡ words.first_broken (A.view answers.now) (row_of (MapMemory device memory offset size)) }
+{
+    let front = first_broken(
+        answers,
+        &[
+            Check::Live(Kind::Device, device),
+            Check::Live(Kind::Memory, memory),
+            Check::Of(memory, device),
+            Check::Must(Fault::BadValue, 1 <= size),
+        ],
+    );
+    let range = span(answers, memory, offset, size);
+    let unmapped = first_broken(answers, &[Check::Unmapped(memory)]);
+    first(front, first(range, unmapped))
 }
 
 /// The fault of UnmapMemory.

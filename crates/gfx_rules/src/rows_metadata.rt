@@ -1,13 +1,14 @@
 //! The rows of metadata and markers.
 
 ghost use Rattle.std.specs.Prelude.{◌≡◌};
-ghost use Rattle.gfx_model.specs.Events.Event.{FillMemory, InitImage, SetSemaphoreState, BeginSection, EndSection};
+ghost use Rattle.gfx_model.specs.Events.Event.{FillMemory, InitImage, SetSwapchainState, SetSemaphoreState, BeginSection, EndSection};
 ghost use Rattle.gfx_model.specs.Table.{row_of};
 ghost use Rattle.gfx_model.specs.Checks as words;
 
 use crate::answers::Answers;
 use crate::broken::first_broken;
-use crate::checks::Check;
+use crate::checks::{Check, first};
+use crate::lists::marks_each;
 use crate::values::{both, is_layout};
 use gfx_types::{Fault, Kind};
 
@@ -41,6 +42,24 @@ pub fn init_image<A: Answers>(answers: &A, image: u64, layout: u32, bytes: &[u8]
             Check::ImageBytes(image, bytes.len() as u64),
         ],
     )
+}
+
+/// The fault of SetSwapchainState.
+pub fn set_swapchain_state<A: Answers>(
+    answers: &A,
+    swapchain: u64,
+    acquired: &[u32],
+) -> Option<Fault>
+    ensures { result ≡ words.first_broken (A.view answers.now) (row_of (SetSwapchainState swapchain acquired.now)) }
+{
+    let front = first_broken(
+        answers,
+        &[
+            Check::Live(Kind::Swapchain, swapchain),
+            Check::OneEach(swapchain, acquired.len() as u64),
+        ],
+    );
+    first(front, marks_each(answers, acquired))
 }
 
 /// The fault of SetSemaphoreState.
