@@ -1,0 +1,45 @@
+-- The first fault of checks that stand one list after another.
+use Rattle.std.proofs.Common.{◌≡◌, ◌<◌, ◌+◌, ℕ, List, [], ◌∷◌, ◌++◌, Option, Some, None, flat_map, length, drop, get_or, refl, sym, ap, ◌∙◌}
+use Rattle.std.proofs.lemmas.List.{at_drop_more}
+use Rattle.gfx_types.specs.declared.names.Fault.{Fault}
+use Rattle.gfx_model.specs.Views.{View}
+use Rattle.gfx_model.specs.Checks.{Check, first, broken, first_broken}
+
+pub first_assoc : (a b c : Option Fault) → first (first a b) c ≡ first a (first b c)
+first_assoc (Some f) b c = refl
+first_assoc None b c = refl
+
+pub appended : (v : View) (xs ys : List Check) → first_broken v (xs ++ ys) ≡ first (first_broken v xs) (first_broken v ys)
+appended v [] ys = refl
+appended v (x ∷ xs) ys = ap (first (broken v x)) (appended v xs ys) ∙ sym (first_assoc (broken v x) (first_broken v xs) (first_broken v ys))
+
+-- the front of a row is broken
+pub stops : (v : View) (front more row : List Check) (f : Fault) → Some f ≡ first_broken v front → row ≡ front ++ more → Some f ≡ first_broken v row
+stops v front more row f e is = ap (λ x. first x (first_broken v more)) e ∙ sym (appended v front more) ∙ ap (first_broken v) (sym is)
+
+-- the front of a row is whole
+pub goes_on : (v : View) (front more row : List Check) (o : Option Fault) → None ≡ first_broken v front → o ≡ first_broken v more
+    → row ≡ front ++ more → o ≡ first_broken v row
+goes_on v front more row o e f is =
+    f ∙ ap (λ x. first x (first_broken v more)) e ∙ sym (appended v front more) ∙ ap (first_broken v) (sym is)
+
+-- the faults of two parts
+pub joins : (v : View) (xs ys row : List Check) (a b o : Option Fault) → a ≡ first_broken v xs → b ≡ first_broken v ys → o ≡ first a b
+    → row ≡ xs ++ ys → o ≡ first_broken v row
+joins v xs ys row a b o e f is same =
+    is ∙ ap (λ x. first x b) e ∙ ap (first (first_broken v xs)) f ∙ sym (appended v xs ys) ∙ ap (first_broken v) (sym same)
+
+-- an item of a list breaks a check
+pub breaks : {X : Type 0} (v : View) (checks : X → List Check) (xs : List X) (i : ℕ) (d : X) (f : Fault) (all : Option Fault) → i < length xs
+    → Some f ≡ first_broken v (checks (get_or xs i d)) → first_broken v (flat_map checks (drop i xs)) ≡ all → Some f ≡ all
+breaks v checks xs i d f all h e left =
+    ap (λ x. first x (first_broken v (flat_map checks (drop (i + 1) xs)))) e
+    ∙ sym (at_drop_more (λ ys. first_broken v (flat_map checks ys)) xs i d h ∙ appended v (checks (get_or xs i d)) (flat_map checks (drop (i + 1) xs))) ∙ left
+
+-- an item of a list breaks no check
+pub passes : {X : Type 0} (v : View) (checks : X → List Check) (xs : List X) (i : ℕ) (d : X) (all : Option Fault) → i < length xs
+    → None ≡ first_broken v (checks (get_or xs i d)) → first_broken v (flat_map checks (drop i xs)) ≡ all
+    → first_broken v (flat_map checks (drop (i + 1) xs)) ≡ all
+passes v checks xs i d all h e left =
+    ap (λ x. first x (first_broken v (flat_map checks (drop (i + 1) xs)))) e
+    ∙ sym (at_drop_more (λ ys. first_broken v (flat_map checks ys)) xs i d h ∙ appended v (checks (get_or xs i d)) (flat_map checks (drop (i + 1) xs))) ∙ left

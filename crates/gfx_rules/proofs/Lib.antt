@@ -1,0 +1,6 @@
+pub mod Sizes
+pub mod Joined
+pub mod New
+pub mod Fetched
+pub mod Signals
+pub mod Executed

@@ -1,0 +1,12 @@
+use Rattle.std.proofs.Common.{arith}
+use Rattle.gfx_model.specs.Table as table
+use Rattle.gfx_rules.proofs.Joined.{breaks, passes}
+use Rattle.gfx_rules.proofs.items.mixed_values.Goals as goal
+
+pub returns-in-Some : goal.returns-in-Some
+returns-in-Some g c =
+    breaks (g.A.Answers.view c.args.answers.now) (table.mixed_region_value c.args.image) c.args.items.now c.items.item-index _ _ _ (omega arith) c.in-Some.ensures c.items.invariant
+
+pub items-preserved : goal.items-preserved
+items-preserved g c =
+    passes (g.A.Answers.view c.args.answers.now) (table.mixed_region_value c.args.image) c.args.items.now c.items.item-index _ _ (omega arith) c.in_default.ensures c.items.invariant

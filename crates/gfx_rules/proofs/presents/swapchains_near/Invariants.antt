@@ -1,0 +1,7 @@
+use Rattle.std.proofs.Common.{◌≡◌, map, drop}
+use Rattle.gfx_model.specs.Checks as words
+use Rattle.gfx_rules.proofs.presents.swapchains_near.Given as goal
+
+abbrev pub invariant-items : goal.invariant-items
+invariant-items g l = let v = g.A.Answers.view l.answers in
+    words.first_broken v (map (λ y. words.Check.near y l.queue) (map (λ p. p.swapchain) (drop l.item-index l.items))) ≡ words.first_broken v (map (λ y. words.Check.near y l.queue) (map (λ p. p.swapchain) l.items))

@@ -1,0 +1,25 @@
+//! Which check of its row an effect breaks first, asked of any answers.
+#![tactic(auto)]
+
+mod answers;
+mod broken;
+mod checks;
+mod derived;
+mod fits;
+mod ids;
+mod items;
+mod lists;
+mod presents;
+mod rows_buffers;
+mod rows_commands;
+mod rows_memory;
+mod rows_metadata;
+mod rows_objects;
+mod rows_queue;
+mod rows_signals;
+mod rows_swapchains;
+mod spans;
+mod turns;
+mod values;
+
+pub use answers::Answers;

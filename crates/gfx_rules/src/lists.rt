@@ -1,0 +1,77 @@
+//! Checks of each id of a list that may be long.
+
+ghost use Rattle.std.specs.Prelude.{◌≡◌, ◌∷◌, [], nat_le, not, map};
+ghost use Rattle.gfx_types.specs.declared.names.Kind.TheVariants as kind;
+ghost use Rattle.gfx_types.specs.declared.names.Fault.TheVariants.{NotLive};
+ghost use Rattle.gfx_model.specs.Table as table;
+ghost use Rattle.gfx_model.specs.Checks as words;
+
+use crate::answers::Answers;
+use crate::broken::{broken, first_broken};
+use crate::checks::Check;
+use crate::ids::is_among_least;
+use gfx_types::{Fault, Kind};
+
+/// The fault of the first id that is not live.
+pub fn live_each<A: Answers>(answers: &A, kind: Kind, ids: &[u64]) -> Option<Fault>
+    ensures { result ≡ words.first_broken (A.view answers.now) (map (words.Check.live kind) ids.now) }
+{
+    'ids: for id in ids {
+        if let Some(fault) = broken(answers, Check::Live(kind, *id)) {
+            return Some(fault);
+        }
+    }
+    None
+}
+
+/// The fault of the first id whose parent is another.
+pub fn of_each<A: Answers>(answers: &A, parent: u64, ids: &[u64]) -> Option<Fault>
+    ensures { result ≡ words.first_broken (A.view answers.now) (map (λ x. words.Check.of x parent) ids.now) }
+{
+    'ids: for id in ids {
+        if let Some(fault) = broken(answers, Check::Of(*id, parent)) {
+            return Some(fault);
+        }
+    }
+    None
+}
+
+/// 11 unless it is a live command buffer that stands nowhere earlier.
+fn once_fault<A: Answers>(answers: &A, id: u64, is_earlier: bool) -> Option<Fault>
+    ensures { result ≡ words.first_broken (A.view answers.now) (words.Check.live kind.CommandBuffer id ∷ words.Check.must NotLive (not is_earlier) ∷ []) }
+{
+    first_broken(
+        answers,
+        &[
+            Check::Live(Kind::CommandBuffer, id),
+            Check::Must(Fault::NotLive, !is_earlier),
+        ],
+    )
+}
+
+/// The fault of the first id that is no live command buffer, or stands twice. Rising ids take linear time.
+pub fn live_once<A: Answers>(answers: &A, ids: &[u64]) -> Option<Fault>
+    ensures { result ≡ words.first_broken (A.view answers.now) (table.live_once kind.CommandBuffer [] ids.now) }
+{
+    let mut greatest = 0;
+    'ids: for (at, id) in ids.iter().enumerate() {
+        let is_earlier = is_among_least(&ids[..at], greatest, *id);
+        if let Some(fault) = once_fault(answers, *id, is_earlier) {
+            return Some(fault);
+        }
+        greatest = greatest.max(*id);
+    }
+    None
+}
+
+/// The fault of the first number that is no mark: 0 or 1.
+pub fn marks_each<A: Answers>(answers: &A, marks: &[u32]) -> Option<Fault>
+    ensures { result ≡ words.first_broken (A.view answers.now) (map (λ a. table.value (nat_le a 1)) marks.now) }
+{
+    'marks: for mark in marks {
+        if let Some(fault) = broken(answers, Check::Must(Fault::BadValue, *mark <= 1)) {
+            return Some(fault);
+        }
+    }
+    None
+}
