@@ -1,13 +1,16 @@
 //! The commands of a buffer, and what is kept beside them so that no byte is read again.
-ghost use Rattle.std.specs.Prelude.{flat_map, ◌≡◌, ◌+◌, ◌<◌, ◌^◌, ◌++◌, ◌∷◌, [], length, sum_by, slice_get, OnOk, OnErr, IfSome};
+ghost use Rattle.std.specs.Prelude.{flat_map, ◌≡◌, ◌+◌, ◌<◌, ◌^◌, ◌++◌, ◌∷◌, [], length, sum_by, slice_get, take, OnOk, OnErr, IfSome};
 ghost use Rattle.std.specs.Option.{option_copied};
-ghost use Rattle.std.specs.List.{list_any};
+ghost use Rattle.std.specs.List.{list_any, AllByRecursion};
 ghost use Rattle.gfx_model.specs.Events.{event_of_call};
 ghost use Rattle.gfx_model.specs.Spelling.{HasSpelling, spelling};
 ghost use Rattle.gfx_model.specs.Steps.{resources_of};
 ghost use Rattle.gfx_model.specs.Checks.{layouts_of};
 ghost use Rattle.gfx_model.specs.After.{is_lost};
 ghost use Rattle.gfx_objects.specs.Objects.{answers};
+ghost use Rattle.gfx_ops.specs.Operations.{ops_of_command};
+ghost use Rattle.gfx_ops.specs.Laws.{WindowsEnd};
+ghost use Rattle.gfx_commands.specs.Runnable.{IsRunnable};
 ghost use Rattle.gfx_commands.specs.Recorded.{IsRecorded};
 ghost use Rattle.gfx_commands.specs.Uses.{IsIndex};
 ghost use Rattle.gfx_commands.specs.Commands.{events_in, bytes_of};
@@ -15,7 +18,7 @@ ghost use Rattle.gfx_commands.specs.Commands.{events_in, bytes_of};
 use crate::recorded::Recorded;
 use crate::uses::{Uses, resources_in};
 use gfx_objects::Objects;
-use gfx_types::{Call, WantMemory};
+use gfx_types::{Call, OpList, WantMemory};
 use std::alloc::Global;
 use std::marker::Model;
 
@@ -95,6 +98,24 @@ impl Commands {
         };
         self.bytes += length;
         self.uses.add(call);
+        Ok(())
+    }
+
+    /// Appends what the commands do to a list of operations. For want of memory the list begins with what it was.
+    pub(crate) fn append_ops(
+        &self,
+        alloc: Global,
+        objects: &Objects,
+        ops: &mut OpList,
+    ) -> Result<(), WantMemory>
+        requires each { AllByRecursion (IsRunnable (answers objects.now)) (events_in self.now) }
+        requires windows { WindowsEnd (answers objects.now) }
+        ensures ok { OnOk result (ops.new ≡ ops.old ++ flat_map (ops_of_command (answers objects.now)) (events_in self.now)) }
+        ensures err { OnErr result (take (length ops.old) ops.new ≡ ops.old) }
+    {
+        'items: for recorded in &self.items {
+            recorded.append_ops(alloc, objects, ops)?;
+        }
         Ok(())
     }
 

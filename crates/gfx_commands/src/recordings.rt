@@ -1,7 +1,7 @@
 //! What is recorded in all command buffers.
 ghost use Rattle.std.specs.Prelude.{flat_map, ◌≡◌, ℕ, ◌+◌, ◌<◌, ◌≤◌, ◌^◌, ◌==◌, ◌&&◌, ◌++◌, ◌∷◌, [], List, length, sum_by, slice_get, option_map, Some, IsTrue, IsSome, IsNone, IfSome, OnOk, OnErr, true, if◌then◌else◌};
 ghost use Rattle.std.specs.Option.{option_copied};
-ghost use Rattle.std.specs.List.{list_any};
+ghost use Rattle.std.specs.List.{list_any, AllByRecursion};
 ghost use Rattle.std.specs.FinMap as map;
 ghost use Rattle.gfx_table.specs.Slots.{least_above};
 ghost use Rattle.gfx_model.specs.Events.{event_of_call};
@@ -12,6 +12,9 @@ ghost use Rattle.gfx_model.specs.Views.{commands_in, bytes_in};
 ghost use Rattle.gfx_model.specs.Checks.{is_recording, is_distinct};
 ghost use Rattle.gfx_model.specs.After.{is_gone, is_lost, buffer_after_end};
 ghost use Rattle.gfx_objects.specs.Objects.{answers};
+ghost use Rattle.gfx_ops.specs.Operations.{ops_of_command};
+ghost use Rattle.gfx_ops.specs.Laws.{WindowsEnd};
+ghost use Rattle.gfx_commands.specs.Runnable.{IsRunnable};
 ghost use Rattle.gfx_commands.specs.declared.recording.Recording.{Recording};
 ghost use Rattle.gfx_commands.specs.Recorded.{event_in, IsRecorded};
 ghost use Rattle.gfx_commands.specs.Recording.{state_of, buffer_of};
@@ -19,13 +22,13 @@ ghost use Rattle.gfx_commands.specs.Uses.{IsIndex};
 ghost use Rattle.gfx_commands.specs.Layouts.{asked_in};
 ghost use Rattle.gfx_commands.specs.Recordings.{buffers, commands_total, bytes_total, HoldsKept};
 
+use crate::lost::{is_gone, is_in_pool};
 use crate::recorded::Recorded;
 use crate::recording::{CbState, Recording};
-use crate::lost::{is_gone, is_in_pool};
 use crate::uses::Uses;
 use gfx_objects::Objects;
 use gfx_table::Table;
-use gfx_types::{Call, WantMemory};
+use gfx_types::{Call, OpList, WantMemory};
 use std::alloc::Global;
 use std::marker::Model;
 
@@ -231,6 +234,28 @@ impl Recordings {
         'rows: while let Some(cb) = self.next(after) {
             self.end_one(cb, gone, objects);
             after = cb;
+        }
+    }
+
+    /// Appends what the commands of a buffer do to a list of operations. Each of them breaks no check of its row but
+    /// perhaps that its buffer is recording and that there is room, and each usable resource ends within the limit on
+    /// live bytes. For want of memory the list is as it was.
+    pub fn expand(&self, cb: u64, objects: &Objects, ops: &mut OpList) -> Result<(), WantMemory>
+        requires each { AllByRecursion (IsRunnable (answers objects.now)) (buffers self.now cb).commands }
+        requires windows { WindowsEnd (answers objects.now) }
+        ensures ok { OnOk result (ops.new ≡ ops.old ++ flat_map (ops_of_command (answers objects.now)) (buffers self.now cb).commands) }
+        ensures err { OnErr result (ops.new ≡ ops.old) }
+    {
+        let Some(row) = self.rows.get(cb) else {
+            return Ok(());
+        };
+        let length = ops.items().len();
+        match row.commands.append_ops(self.alloc, objects, ops) {
+            Ok(()) => Ok(()),
+            Err(WantMemory) => {
+                ops.cut(length);
+                Err(WantMemory)
+            }
         }
     }
 
