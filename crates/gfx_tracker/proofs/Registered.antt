@@ -172,7 +172,7 @@ module _ (k n : Kept) (s : FinMap nat_cmp Bool) (m : FinMap nat_cmp (List Bool))
 
 -- ---- an object that ends
 
-none_of : {X : Type 0} (o : Option X) → is_some o ≡ false → o ≡ None
+pub none_of : {X : Type 0} (o : Option X) → is_some o ≡ false → o ≡ None
 none_of None e = refl
 none_of (Some x) e = absurd cc
 

@@ -1,2 +1,4 @@
 pub mod Registered
 pub mod Registry
+pub mod Gathered
+pub mod State

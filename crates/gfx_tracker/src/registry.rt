@@ -1,5 +1,5 @@
 //! Live objects, with the signals of fences and semaphores and the marks of acquired images.
-ghost use Rattle.std.specs.Prelude.{◌≡◌, ◌+◌, ◌<◌, ◌≤◌, ◌^◌, ◌==◌, ◌||◌, [], false, true, None, IsTrue, IsSome, OnOk, OnErr};
+ghost use Rattle.std.specs.Prelude.{◌≡◌, ◌+◌, ◌<◌, ◌≤◌, ◌^◌, ◌==◌, ◌||◌, [], false, true, None, IsTrue, IsSome, is_some, OnOk, OnErr};
 ghost use Rattle.std.specs.FinMap as finmap;
 ghost use Rattle.gfx_types.specs.declared.names.Kind.TheVariants as kind;
 ghost use Rattle.gfx_model.specs.Steps.Step.{creates, ends, binds, maps, unmaps, signals, unsignals, acquires, gives_back, changes};
@@ -52,7 +52,7 @@ impl Registry {
     pub(crate) fn create(&mut self, id: u64, parent: u64, detail: Detail) -> Result<(), WantMemory>
         requires not_zero { 0 < id }
         requires unused { (answers_of self.old).used id ≡ false }
-        requires fresh { (answers_of self.old).live id ≡ None }
+        requires fresh { is_some ((answers_of self.old).live id) ≡ false }
         requires new { IsNew detail }
         requires within { IsTrue (is_within (detail_of detail)) }
         requires room { view.object_count (answers_of self.old) < 65536 }
@@ -70,7 +70,7 @@ impl Registry {
     pub(crate) fn create_owned(&mut self, id: u64, parent: u64, detail: Detail)
         requires not_zero { 0 < id }
         requires unused { (answers_of self.old).used id ≡ false }
-        requires fresh { (answers_of self.old).live id ≡ None }
+        requires fresh { is_some ((answers_of self.old).live id) ≡ false }
         requires new { IsNew detail }
         requires within { IsTrue (is_within (detail_of detail)) }
         requires plain { has_signal (detail_of detail) ≡ false }
@@ -86,7 +86,7 @@ impl Registry {
 
     /// Ends a live object, with what it owns.
     pub(crate) fn end(&mut self, id: u64)
-        requires { IsSome ((answers_of self.old).live id) }
+        requires { is_some ((answers_of self.old).live id) ≡ true }
         ensures { answers_of self.new ≡ after (answers_of self.old) (ends id) }
     {
         let Some(object) = self.objects.get(id).copied() else {

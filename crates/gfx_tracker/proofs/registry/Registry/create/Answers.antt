@@ -5,7 +5,7 @@ use Rattle.gfx_model.specs.After.{after}
 use Rattle.gfx_objects.specs.Object.{detail_of}
 use Rattle.gfx_objects.specs.Objects.{answers}
 use Rattle.gfx_tracker.specs.Registered.{IsRegistered, registered, with_signal}
-use Rattle.gfx_tracker.proofs.Registered.{registered_along, answers_along, registered_made, answers_made}
+use Rattle.gfx_tracker.proofs.Registered.{registered_along, answers_along, registered_made, answers_made, none_of}
 use Rattle.gfx_tracker.proofs.registry.Registry.create.Goals as goal
 
 pub create-requires-clause-bytes : goal.create-requires-clause-bytes
@@ -18,7 +18,7 @@ invariant_of-self-2 c =
     let d = detail_of c.args.detail in
     let k = c.reserve.new.self in
     let inv : IsRegistered k r.signals r.images = registered_along r.objects k r.signals r.images r.kept c.reserve.ensures.same in
-    let none : (answers k).live c.args.id ≡ None = ap (λ (v : View). v.live c.args.id) c.reserve.ensures.same ∙ c.requires.fresh in
+    let none : (answers k).live c.args.id ≡ None = ap (λ (v : View). v.live c.args.id) c.reserve.ensures.same ∙ none_of _ c.requires.fresh in
     record {
       kept = subst (λ t. IsRegistered c.create.new.self t c.keep.new.images) (sym c.in_ok-keep.ensures.signals)
           (subst (λ l. IsRegistered c.create.new.self (with_signal c.args.id d r.signals) l) (sym c.in_ok-keep.ensures.images)
@@ -31,7 +31,7 @@ returns-clause-ok c =
     let d = detail_of c.args.detail in
     let k = c.reserve.new.self in
     let inv : IsRegistered k r.signals r.images = registered_along r.objects k r.signals r.images r.kept c.reserve.ensures.same in
-    let none : (answers k).live c.args.id ≡ None = ap (λ (v : View). v.live c.args.id) c.reserve.ensures.same ∙ c.requires.fresh in
+    let none : (answers k).live c.args.id ≡ None = ap (λ (v : View). v.live c.args.id) c.reserve.ensures.same ∙ none_of _ c.requires.fresh in
     ap (λ t. registered c.create.new.self t c.keep.new.images) c.in_ok-keep.ensures.signals
     ∙ ap (λ l. registered c.create.new.self (with_signal c.args.id d r.signals) l) c.in_ok-keep.ensures.images
     ∙ answers_made k c.create.new.self r.signals r.images c.args.id c.args.parent d inv c.create.ensures.step none
