@@ -6,3 +6,4 @@ pub mod Buffers
 pub mod Rising
 pub mod Passing
 pub mod Named
+pub mod Laid

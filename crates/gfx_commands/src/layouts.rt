@@ -36,13 +36,7 @@ fn layout_of(objects: &Objects, image: u64) -> u32
 impl Recordings {
     /// Whether the buffer at a place of a call meets a layout other than the one that it asks for, after all that the call
     /// executes before it.
-    pub fn layout_differs(
-        &self,
-        submits: &Submits,
-        submit: u32,
-        at: u32,
-        objects: &Objects,
-    ) -> bool
+    pub fn layout_differs(&self, submits: &Submits, submit: u32, at: u32, objects: &Objects) -> bool
         requires submit { submit < length submits.now }
         requires at { at < length (cbs_at submits.now submit) }
         ensures { result ≡ not (meets (layouts_by (buffers self.now) (answers objects.now).layout (executed_before submits.now submit at)) (asked_in (buffers self.now) (slice_index (cbs_at submits.now submit) at))) }
@@ -50,7 +44,8 @@ impl Recordings {
         let (submit, at) = (submit as usize, at as usize);
         let cb = submits.items()[submit].cbs.items()[at];
         match self.uses(cb) {
-            Some(uses) => !uses.agrees || self.image_differs(uses, submits.items(), submit, at, objects),
+            Some(uses) => !uses.agrees
+                || self.image_differs(uses, submits.items(), submit, at, objects),
             None => false,
         }
     }

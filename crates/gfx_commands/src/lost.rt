@@ -34,10 +34,12 @@ fn is_bound_to(detail: &Detail, memory: u64) -> bool
 {
     match detail {
         Detail::Buffer {
-            bound: Some(bound), ..
+            bound: Some(bound),
+            ..
         } => bound.memory == memory,
         Detail::Image {
-            bound: Some(bound), ..
+            bound: Some(bound),
+            ..
         } => bound.memory == memory,
         _ => false,
     }

@@ -19,9 +19,9 @@ ghost use Rattle.gfx_commands.specs.Uses.{IsIndex};
 ghost use Rattle.gfx_commands.specs.Layouts.{asked_in};
 ghost use Rattle.gfx_commands.specs.Recordings.{buffers, commands_total, bytes_total, HoldsKept};
 
+use crate::lost::{is_gone, is_in_pool};
 use crate::recorded::Recorded;
 use crate::recording::{CbState, Recording};
-use crate::lost::{is_gone, is_in_pool};
 use crate::uses::Uses;
 use gfx_objects::Objects;
 use gfx_table::Table;
