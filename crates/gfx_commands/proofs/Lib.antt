@@ -7,3 +7,4 @@ pub mod Rising
 pub mod Passing
 pub mod Named
 pub mod Running
+pub mod Laid

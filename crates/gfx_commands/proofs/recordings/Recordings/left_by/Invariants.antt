@@ -1,0 +1,14 @@
+use Rattle.std.proofs.Common.{◌≡◌, ℕ, ◌≤◌, length, take}
+use Rattle.gfx_commands.specs.Recordings.{buffers}
+use Rattle.gfx_commands.specs.Layouts.{layouts_by}
+use Rattle.gfx_commands.proofs.recordings.Recordings.left_by.Given as goal
+
+-- the buffers from `end` on leave the image as it was
+abbrev pub invariant-buffers : goal.invariant-buffers
+invariant-buffers l = record {
+  in_range : l.end ≤ length l.cbs;
+  same : (layout : ℕ → ℕ) → layouts_by (buffers l.self) layout l.cbs l.image ≡ layouts_by (buffers l.self) layout (take l.end l.cbs) l.image;
+}
+
+abbrev pub decreases-buffers : goal.decreases-buffers
+decreases-buffers l = l.end
