@@ -16,35 +16,56 @@ use gfx_types::{Call, Effect, Fault, Meta};
 fn may_stand_inside(call: &Call<'_>) -> bool
     ensures { result ≡ stands_in_section (id_of (event_of_call call.now)) }
 {
-    matches!(
-        call,
+    match call {
         Call::CreateInstance { .. }
-            | Call::CreateHeadlessSurfaceEXT { .. }
-            | Call::CreateDevice { .. }
-            | Call::GetDeviceQueue { .. }
-            | Call::AllocateMemory { .. }
-            | Call::MapMemory { .. }
-            | Call::CreateBuffer { .. }
-            | Call::BindBufferMemory { .. }
-            | Call::CreateImage { .. }
-            | Call::BindImageMemory { .. }
-            | Call::CreateCommandPool { .. }
-            | Call::AllocateCommandBuffers { .. }
-            | Call::BeginCommandBuffer { .. }
-            | Call::EndCommandBuffer { .. }
-            | Call::CmdPipelineBarrier { .. }
-            | Call::CmdFillBuffer { .. }
-            | Call::CmdUpdateBuffer { .. }
-            | Call::CmdCopyBuffer { .. }
-            | Call::CmdCopyImage { .. }
-            | Call::CmdCopyBufferToImage { .. }
-            | Call::CmdCopyImageToBuffer { .. }
-            | Call::CmdClearColorImage { .. }
-            | Call::CreateFence { .. }
-            | Call::CreateSemaphore { .. }
-            | Call::CreateSwapchainKHR { .. }
-            | Call::GetSwapchainImagesKHR { .. }
-    )
+        | Call::CreateHeadlessSurfaceEXT { .. }
+        | Call::CreateDevice { .. }
+        | Call::GetDeviceQueue { .. }
+        | Call::AllocateMemory { .. }
+        | Call::MapMemory { .. }
+        | Call::CreateBuffer { .. }
+        | Call::BindBufferMemory { .. }
+        | Call::CreateImage { .. }
+        | Call::BindImageMemory { .. }
+        | Call::CreateCommandPool { .. }
+        | Call::AllocateCommandBuffers { .. }
+        | Call::BeginCommandBuffer { .. }
+        | Call::EndCommandBuffer { .. }
+        | Call::CmdPipelineBarrier { .. }
+        | Call::CmdFillBuffer { .. }
+        | Call::CmdUpdateBuffer { .. }
+        | Call::CmdCopyBuffer { .. }
+        | Call::CmdCopyImage { .. }
+        | Call::CmdCopyBufferToImage { .. }
+        | Call::CmdCopyImageToBuffer { .. }
+        | Call::CmdClearColorImage { .. }
+        | Call::CreateFence { .. }
+        | Call::CreateSemaphore { .. }
+        | Call::CreateSwapchainKHR { .. }
+        | Call::GetSwapchainImagesKHR { .. } => true,
+        Call::DestroyInstance { .. }
+        | Call::DestroySurfaceKHR { .. }
+        | Call::DestroyDevice { .. }
+        | Call::FreeMemory { .. }
+        | Call::UnmapMemory { .. }
+        | Call::DestroyBuffer { .. }
+        | Call::DestroyImage { .. }
+        | Call::DestroyCommandPool { .. }
+        | Call::ResetCommandPool { .. }
+        | Call::FreeCommandBuffers { .. }
+        | Call::ResetCommandBuffer { .. }
+        | Call::DestroyFence { .. }
+        | Call::ResetFences { .. }
+        | Call::WaitForFences { .. }
+        | Call::GetFenceStatus { .. }
+        | Call::DestroySemaphore { .. }
+        | Call::QueueSubmit { .. }
+        | Call::QueueWaitIdle { .. }
+        | Call::DeviceWaitIdle { .. }
+        | Call::DestroySwapchainKHR { .. }
+        | Call::AcquireNextImageKHR { .. }
+        | Call::QueuePresentKHR { .. } => false,
+    }
 }
 
 /// 10 for a call in the section that may not stand there.
