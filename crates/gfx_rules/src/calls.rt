@@ -11,8 +11,10 @@ use crate::rows_buffers::{
     reset_command_buffer,
 };
 use crate::rows_commands::{
-    cmd_clear_color_image, cmd_copy_buffer, cmd_copy_buffer_to_image, cmd_copy_image,
-    cmd_copy_image_to_buffer, cmd_fill_buffer, cmd_pipeline_barrier, cmd_update_buffer,
+    cmd_clear_color_image, cmd_fill_buffer, cmd_pipeline_barrier, cmd_update_buffer,
+};
+use crate::rows_copies::{
+    cmd_copy_buffer, cmd_copy_buffer_to_image, cmd_copy_image, cmd_copy_image_to_buffer,
 };
 use crate::rows_memory::{
     allocate_memory, bind_buffer_memory, bind_image_memory, create_buffer, create_image,

@@ -16,6 +16,7 @@ mod places;
 mod presents;
 mod rows_buffers;
 mod rows_commands;
+mod rows_copies;
 mod rows_memory;
 mod rows_metadata;
 mod rows_objects;
@@ -29,3 +30,6 @@ mod values;
 
 pub use answers::Answers;
 pub use effects::fault_of;
+
+#[cfg(test)]
+mod tests;
