@@ -4,3 +4,5 @@ pub mod New
 pub mod Fetched
 pub mod Signals
 pub mod Executed
+pub mod Once
+pub mod Standing

@@ -12,7 +12,7 @@ use Rattle.gfx_model.specs.Views.{View}
 use Rattle.gfx_model.specs.Checks.{first, broken, first_broken, new_fault, new_faults, room_fault, is_among}
 use Rattle.gfx_model.specs.Checks.Check.{live, must, room}
 use Rattle.gfx_model.specs.Table.{new_each, live_once}
-use Rattle.gfx_rules.proofs.Joined.{appended}
+use Rattle.gfx_rules.proofs.Joined.{appended, alone}
 
 -- the ids before a place, the last one first
 abbrev pub behind : List ℕ → ℕ → List ℕ
@@ -53,10 +53,6 @@ pub news : (v : View) (earlier ids : List ℕ) → first_broken v (new_each earl
 unfolding broken
 news v earlier [] = refl
 news v earlier (x ∷ xs) = ap (first (new_fault v earlier x)) (news v (x ∷ earlier) xs)
-
-alone : (a : Option Fault) → first a None ≡ a
-alone (Some f) = refl
-alone None = refl
 
 pub rooms : (v : View) (n : ℕ) → first_broken v (room n ∷ []) ≡ room_fault v n
 unfolding broken

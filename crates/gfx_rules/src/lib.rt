@@ -3,15 +3,20 @@
 
 mod answers;
 mod broken;
+mod calls;
 mod checks;
 mod derived;
+mod distinct;
+mod effects;
 mod fits;
 mod ids;
 mod items;
 mod lists;
+mod places;
 mod presents;
 mod rows_buffers;
 mod rows_commands;
+mod rows_copies;
 mod rows_memory;
 mod rows_metadata;
 mod rows_objects;
@@ -19,7 +24,12 @@ mod rows_queue;
 mod rows_signals;
 mod rows_swapchains;
 mod spans;
+mod submits;
 mod turns;
 mod values;
 
 pub use answers::Answers;
+pub use effects::fault_of;
+
+#[cfg(test)]
+mod tests;

@@ -8,7 +8,7 @@ ghost use Rattle.gfx_model.specs.Checks as words;
 
 use crate::answers::Answers;
 use crate::broken::{broken, first_broken};
-use crate::checks::Check;
+use crate::checks::{Check, first};
 use crate::ids::is_among_least;
 use gfx_types::{Fault, Kind};
 
@@ -34,6 +34,26 @@ pub fn of_each<A: Answers>(answers: &A, parent: u64, ids: &[u64]) -> Option<Faul
         }
     }
     None
+}
+
+/// The fault of the first id that belongs to another device than this object.
+fn near_all<A: Answers>(answers: &A, other: u64, ids: &[u64]) -> Option<Fault>
+    ensures { result ≡ words.first_broken (A.view answers.now) (map (λ y. words.Check.near y other) ids.now) }
+{
+    'ids: for id in ids {
+        if let Some(fault) = broken(answers, Check::Near(*id, other)) {
+            return Some(fault);
+        }
+    }
+    None
+}
+
+/// The fault of the first id that is not live, and then of the first that belongs to another device than this object.
+pub fn near_each<A: Answers>(answers: &A, kind: Kind, other: u64, ids: &[u64]) -> Option<Fault>
+    ensures { result ≡ words.first_broken (A.view answers.now) (table.near_each kind other ids.now) }
+{
+    let live = live_each(answers, kind, ids);
+    first(live, near_all(answers, other, ids))
 }
 
 /// 11 unless it is a live command buffer that stands nowhere earlier.

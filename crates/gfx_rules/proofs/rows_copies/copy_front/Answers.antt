@@ -3,7 +3,7 @@ use Rattle.gfx_types.specs.declared.names.Kind.TheVariants as kind
 use Rattle.gfx_model.specs.Table as table
 use Rattle.gfx_model.specs.Checks as words
 use Rattle.gfx_rules.proofs.Joined.{joins}
-use Rattle.gfx_rules.proofs.rows_commands.copy_front.Goals as goal
+use Rattle.gfx_rules.proofs.rows_copies.copy_front.Goals as goal
 
 pub returns : goal.returns
 returns g c =

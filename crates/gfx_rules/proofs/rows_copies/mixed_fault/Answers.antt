@@ -3,7 +3,7 @@ use Rattle.gfx_types.specs.declared.names.Kind.TheVariants as kind
 use Rattle.gfx_model.specs.Table as table
 use Rattle.gfx_model.specs.Checks as words
 use Rattle.gfx_rules.proofs.Joined.{joins}
-use Rattle.gfx_rules.proofs.rows_commands.mixed_fault.Goals as goal
+use Rattle.gfx_rules.proofs.rows_copies.mixed_fault.Goals as goal
 
 pub returns : goal.returns
 returns g c = joins (g.A.Answers.view c.args.answers.now) _ _ _ _ _ _ c.mixed_values-values.ensures c.mixed_regions_in.ensures c.first.ensures refl

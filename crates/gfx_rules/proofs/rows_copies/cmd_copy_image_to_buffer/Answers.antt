@@ -3,7 +3,7 @@ use Rattle.gfx_types.specs.declared.names.Kind.TheVariants as kind
 use Rattle.gfx_model.specs.Table as table
 use Rattle.gfx_model.specs.Checks as words
 use Rattle.gfx_rules.proofs.Joined.{stops, goes_on, joins}
-use Rattle.gfx_rules.proofs.rows_commands.cmd_copy_image_to_buffer.Goals as goal
+use Rattle.gfx_rules.proofs.rows_copies.cmd_copy_image_to_buffer.Goals as goal
 
 pub returns-in-Some : goal.returns-in-Some
 unfolding table.row_of

@@ -3,14 +3,14 @@ use Rattle.gfx_types.specs.declared.names.Kind.TheVariants as kind
 use Rattle.gfx_model.specs.Table as table
 use Rattle.gfx_model.specs.Checks as words
 use Rattle.gfx_rules.proofs.Joined.{stops, goes_on, joins}
-use Rattle.gfx_rules.proofs.rows_commands.cmd_copy_buffer_to_image.Goals as goal
+use Rattle.gfx_rules.proofs.rows_copies.cmd_copy_buffer.Goals as goal
 
 pub returns-in-Some : goal.returns-in-Some
 unfolding table.row_of
 returns-in-Some g c =
     stops (g.A.Answers.view c.args.answers.now)
     (words.Check.live kind.CommandBuffer c.args.cb ∷ words.Check.recording c.args.cb
-    ∷ table.copied c.args.cb kind.Buffer c.args.source kind.Image c.args.target ++ table.value (words.is_among c.args.layout (7 ∷ 1 ∷ [])) ∷ table.between 1 256 c.args.regions.now)
+    ∷ table.copied c.args.cb kind.Buffer c.args.source kind.Buffer c.args.target ++ table.between 1 256 c.args.regions.now)
     _ _ _ c.in-Some.ensures refl
 
 pub returns-in-None : goal.returns-in-None
@@ -18,7 +18,7 @@ unfolding table.row_of
 returns-in-None g c =
     goes_on (g.A.Answers.view c.args.answers.now)
     (words.Check.live kind.CommandBuffer c.args.cb ∷ words.Check.recording c.args.cb
-    ∷ table.copied c.args.cb kind.Buffer c.args.source kind.Image c.args.target ++ table.value (words.is_among c.args.layout (7 ∷ 1 ∷ [])) ∷ table.between 1 256 c.args.regions.now)
+    ∷ table.copied c.args.cb kind.Buffer c.args.source kind.Buffer c.args.target ++ table.between 1 256 c.args.regions.now)
     _ _ _ c.in-None.ensures
-    (joins _ _ (words.Check.fits _ ∷ []) _ _ _ _ c.mixed_fault-items.ensures c.uploads_fit.ensures c.first.ensures refl)
+    (joins _ _ (words.Check.fits _ ∷ []) _ _ _ _ (joins _ _ _ _ _ _ _ c.buffer_sizes-sizes.ensures c.buffer_regions_in.ensures c.first-items.ensures refl) c.copies_fit.ensures c.first.ensures refl)
     refl
