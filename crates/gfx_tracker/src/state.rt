@@ -73,8 +73,7 @@ impl State {
         requires { is_some ((state_answers self.old).live id) ≡ true }
         ensures { state_answers self.new ≡ after (state_answers self.old) (ends id) }
     {
-        self.recordings
-            .invalidate_users(id, &self.registry.objects);
+        self.recordings.invalidate_users(id, &self.registry.objects);
         self.registry.end(id);
         self.is_empty = false;
     }
