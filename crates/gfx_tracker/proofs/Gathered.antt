@@ -1,11 +1,11 @@
 -- What each step makes of all answers together.
-use Rattle.std.proofs.Common.{◌≡◌, ℕ, ◌==◌, Bool, true, false, ◌&&◌, List, [], ◌∷◌, Option, Some, None, is_some, if◌then◌else◌, refl, ap, sym, subst, ◌∙◌, arith}
+use Rattle.std.proofs.Common.{◌≡◌, ℕ, ◌==◌, Bool, true, false, ◌&&◌, List, [], ◌∷◌, ◌++◌, Option, Some, None, is_some, if◌then◌else◌, refl, ap, sym, subst, ◌∙◌, arith}
 use Rattle.std.proofs.lemmas.Bool.{and_parts}
 use Rattle.std.proofs.lemmas.Bool.Decides.{nat_tests}
 use Rattle.gfx_model.specs.Events.{Event}
 use Rattle.gfx_model.specs.Steps.{Step, Object, Detail}
 use Rattle.gfx_model.specs.Steps.Change.{set_layout}
-use Rattle.gfx_model.specs.Steps.Step.{creates, ends, binds, maps, unmaps, begins, signals, unsignals, acquires, gives_back, changes}
+use Rattle.gfx_model.specs.Steps.Step.{creates, ends, binds, maps, unmaps, begins, records, finishes, resets, resets_pool, executed, signals, unsignals, acquires, gives_back, changes}
 use Rattle.gfx_model.specs.Questions as asked
 use Rattle.gfx_model.specs.Questions.{State, Buffer, new_buffer, is_kept, is_once, invalidated, passes, is_in_pool, goes_with, after_end}
 use Rattle.gfx_model.specs.Views.{View, view_of}
@@ -141,16 +141,84 @@ ended_gathered r q b c n e s gone is buffers =
 
 -- ---- buffers
 
-module _ (r : View) (b c : ℕ → Buffer) (n : ℕ) (e : Bool) (s : Option ℕ) where
+-- the answer at a live id, where it is this one
+at_alive : {X : Type 0} (r : View) (cb x : ℕ) → is_some (r.live cb) ≡ true → (now old : X) → (if cb == x then now else old) ≡ (if cb == x && is_alive r x then now else old)
+at_alive r cb x live now old = by (cb == x) refl
+  where
+    by : (t : Bool) → (cb == x) ≡ t → (if t then now else old) ≡ (if t && is_alive r x then now else old)
+    by true same = ap (λ t. if t then now else old) (sym (subst (λ y. is_some (r.live y) ≡ true) (let at : cb ≡ x = grind (arith, nat_tests, same) in at) live))
+    by false other = refl
+
+-- what is live stays so, and so does what is not
+dead_differs : (r : View) (cb x : ℕ) → is_some (r.live cb) ≡ true → is_some (r.live x) ≡ false → (cb == x) ≡ false
+dead_differs r cb x live dead = by (cb == x) refl
+  where
+    by : (t : Bool) → (cb == x) ≡ t → t ≡ false
+    by true same =
+        let alive : is_some (r.live x) ≡ true = subst (λ y. is_some (r.live y) ≡ true) (let at : cb ≡ x = grind (arith, nat_tests, same) in at) live in
+        absurd (cc (alive, dead))
+    by false other = refl
+
+module _ (r : View) (b c : ℕ → Buffer) (n : ℕ) (e : Bool) (s : Option ℕ) (plain : IsPlain r.live b) where
+  at_plain : (cb : ℕ) (now : Buffer) → is_some (r.live cb) ≡ true → ((x : ℕ) → c x ≡ (if cb == x then now else b x)) → IsPlain r.live c
+  at_plain cb now live is = record { plain = λ x dead. ap is_new (is x ∙ ap (λ t. if t then now else b x) (dead_differs r cb x live dead)) ∙ plain.plain x dead }
+
+  pub begun_plain : (cb flags : ℕ) → is_some (r.live cb) ≡ true → c ≡ (λ x. if cb == x then record { state = State.recording; flags = flags; commands = [] } else b x) → IsPlain r.live c
+  begun_plain cb flags live is = at_plain cb _ live (λ x. ap (λ (c : ℕ → Buffer). c x) is)
+
   pub begun_gathered : (cb flags : ℕ) → is_some (r.live cb) ≡ true → c ≡ (λ x. if cb == x then record { state = State.recording; flags = flags; commands = [] } else b x) →
       gathered r c n false s ≡ after (gathered r b n e s) (begins cb flags)
   unfolding after
-  begun_gathered cb flags live is = λ j. gathered r (λ x. (ap (λ (c : ℕ → Buffer). c x) is ∙ by x (cb == x) refl) j) n false s
-    where
-      by : (x : ℕ) (t : Bool) → (cb == x) ≡ t → (if t then record { state = State.recording; flags = flags; commands = [] } else b x)
-          ≡ (if t && is_alive r x then record { state = State.recording; flags = flags; commands = [] } else b x)
-      by x true same = ap (λ t. if t then record { state = State.recording; flags = flags; commands = [] } else b x) (sym (subst (λ y. is_some (r.live y) ≡ true) (let at : cb ≡ x = grind (arith, nat_tests, same) in at) live))
-      by x false other = refl
+  begun_gathered cb flags live is = λ j. gathered r (λ x. (ap (λ (c : ℕ → Buffer). c x) is ∙ at_alive r cb x live _ _) j) n false s
+
+  at_each : (cb : ℕ) (f : Buffer → Buffer) → is_some (r.live cb) ≡ true → ((x : ℕ) → c x ≡ (if cb == x then f (b x) else b x)) → IsPlain r.live c
+  at_each cb f live is = record { plain = λ x dead. ap is_new (is x ∙ ap (λ t. if t then f (b x) else b x) (dead_differs r cb x live dead)) ∙ plain.plain x dead }
+
+  pub recorded_plain : (cb : ℕ) (command : Event) → is_some (r.live cb) ≡ true → c ≡ (λ x. if cb == x then record (b x) { commands = (b x).commands ++ command ∷ [] } else b x) → IsPlain r.live c
+  recorded_plain cb command live is = at_each cb (λ b. record b { commands = b.commands ++ command ∷ [] }) live (λ x. ap (λ (c : ℕ → Buffer). c x) is)
+
+  pub recorded_gathered : (cb : ℕ) (command : Event) → is_some (r.live cb) ≡ true → c ≡ (λ x. if cb == x then record (b x) { commands = (b x).commands ++ command ∷ [] } else b x) →
+      gathered r c n false s ≡ after (gathered r b n e s) (records cb command)
+  unfolding after
+  recorded_gathered cb command live is = λ j. gathered r (λ x. (ap (λ (c : ℕ → Buffer). c x) is ∙ at_alive r cb x live _ _) j) n false s
+
+  pub finished_plain : (cb : ℕ) → is_some (r.live cb) ≡ true → c ≡ (λ x. if cb == x then record (b x) { state = State.executable } else b x) → IsPlain r.live c
+  finished_plain cb live is = at_each cb (λ b. record b { state = State.executable }) live (λ x. ap (λ (c : ℕ → Buffer). c x) is)
+
+  pub finished_gathered : (cb : ℕ) → is_some (r.live cb) ≡ true → c ≡ (λ x. if cb == x then record (b x) { state = State.executable } else b x) →
+      gathered r c n false s ≡ after (gathered r b n e s) (finishes cb)
+  unfolding after
+  finished_gathered cb live is = λ j. gathered r (λ x. (ap (λ (c : ℕ → Buffer). c x) is ∙ at_alive r cb x live _ _) j) n false s
+
+  new_or : (t : Bool) (x : ℕ) → is_new (b x) ≡ true → is_new (if t then new_buffer else b x) ≡ true
+  new_or true x e = refl
+  new_or false x e = e
+
+  pub reset_plain : (cb : ℕ) → c ≡ (λ x. if cb == x then new_buffer else b x) → IsPlain r.live c
+  reset_plain cb is = record { plain = λ x dead. ap (λ (c : ℕ → Buffer). is_new (c x)) is ∙ new_or (cb == x) x (plain.plain x dead) }
+
+  pub reset_gathered : (cb : ℕ) → c ≡ (λ x. if cb == x then new_buffer else b x) → gathered r c n false s ≡ after (gathered r b n e s) (resets cb)
+  unfolding after
+  reset_gathered cb is = ap (λ (c : ℕ → Buffer). gathered r c n false s) is
+
+  pub pool_plain : (pool : ℕ) → c ≡ (λ x. if passes (is_in_pool pool) (r.live x) then new_buffer else b x) → IsPlain r.live c
+  pool_plain pool is = record { plain = λ x dead. ap (λ (c : ℕ → Buffer). is_new (c x)) is ∙ new_or (passes (is_in_pool pool) (r.live x)) x (plain.plain x dead) }
+
+  pub pool_gathered : (pool : ℕ) → c ≡ (λ x. if passes (is_in_pool pool) (r.live x) then new_buffer else b x) → gathered r c n false s ≡ after (gathered r b n e s) (resets_pool pool)
+  unfolding after
+  pool_gathered pool is = ap (λ (c : ℕ → Buffer). gathered r c n false s) is
+
+  pub executed_plain : (cb : ℕ) → c ≡ (λ x. invalidated (cb == x && is_once (b x)) (b x)) → IsPlain r.live c
+  executed_plain cb is = record { plain = λ x dead. ap (λ (c : ℕ → Buffer). is_new (c x)) is ∙ new_stays _ (b x) (plain.plain x dead) }
+
+  pub executed_gathered : (cb : ℕ) → c ≡ (λ x. invalidated (cb == x && is_once (b x)) (b x)) → gathered r c n false s ≡ after (gathered r b n e s) (executed cb)
+  unfolding after
+  executed_gathered cb is = ap (λ (c : ℕ → Buffer). gathered r c n false s) is
+
+-- ---- the same answers
+
+pub along_plain : (r q : View) (b : ℕ → Buffer) → q ≡ r → IsPlain r.live b → IsPlain q.live b
+along_plain r q b e plain = subst (λ (v : View). IsPlain v.live b) (sym e) plain
 
 -- ---- nothing was taken
 

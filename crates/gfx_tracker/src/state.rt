@@ -1,19 +1,25 @@
 //! What stands after the effects of a capture: objects, recordings, the next frame and the section.
-ghost use Rattle.std.specs.Prelude.{◌≡◌, ◌+◌, ◌<◌, ◌≤◌, ◌^◌, ◌==◌, ◌&&◌, ◌||◌, [], true, false, IsTrue, is_some, OnOk, OnErr};
+ghost use Rattle.std.specs.Prelude.{◌≡◌, ◌+◌, ◌<◌, ◌≤◌, ◌^◌, ◌==◌, ◌&&◌, ◌||◌, [], true, false, None, IsTrue, is_some, length, OnOk, OnErr};
 ghost use Rattle.gfx_types.specs.declared.names.Kind.TheVariants as kind;
 ghost use Rattle.gfx_model.specs.Steps.Step.{taken, begins_section, ends_section, creates, ends, binds, maps, unmaps, begins, records, finishes, resets, resets_pool, executed, signals, unsignals, acquires, gives_back, changes, presents};
 ghost use Rattle.gfx_model.specs.Steps.Change.{set_layout};
+ghost use Rattle.gfx_model.specs.Events.{event_of_call};
+ghost use Rattle.gfx_model.specs.Spelling.{HasSpelling, spelling};
+ghost use Rattle.gfx_model.specs.Questions.{passes};
+ghost use Rattle.gfx_model.specs.Checks.{is_recording};
 ghost use Rattle.gfx_model.specs.Views as view;
 ghost use Rattle.gfx_model.specs.After.{after};
 ghost use Rattle.gfx_objects.specs.Object.{detail_of, IsNew, is_within};
 ghost use Rattle.gfx_objects.specs.Objects.{answers};
-ghost use Rattle.gfx_commands.specs.Recordings.{buffers};
+ghost use Rattle.gfx_commands.specs.Recordings.{buffers, commands_total, bytes_total};
+ghost use Rattle.gfx_laws.specs.Lawful.{has_signal};
+ghost use Rattle.gfx_tracker.specs.Registered.{images_of};
 ghost use Rattle.gfx_tracker.specs.Gathered.{IsPlain};
 
 use crate::registry::Registry;
 use gfx_commands::Recordings;
 use gfx_objects::Detail;
-use gfx_types::WantMemory;
+use gfx_types::{Call, WantMemory};
 use std::alloc::Global;
 
 /// What stands after the effects of a capture.
@@ -102,6 +108,166 @@ impl State {
         ensures { state_answers self.new ≡ after (state_answers self.old) (unmaps memory) }
     {
         self.registry.unmap(memory);
+        self.is_empty = false;
+    }
+
+    /// Makes room for so many creations.
+    pub(crate) fn reserve(&mut self, n: u32) -> Result<(), WantMemory>
+        ensures same { state_answers self.new ≡ state_answers self.old }
+        ensures ok { OnOk result (n ≤ self.new.registry.objects.spare) }
+    {
+        self.registry.reserve(n)
+    }
+
+    /// Creates a queue, a command buffer or an image of a swapchain, for which there is room.
+    pub(crate) fn create_owned(&mut self, id: u64, parent: u64, detail: Detail)
+        requires not_zero { 0 < id }
+        requires unused { (state_answers self.old).used id ≡ false }
+        requires fresh { is_some ((state_answers self.old).live id) ≡ false }
+        requires new { IsNew detail }
+        requires within { IsTrue (is_within (detail_of detail)) }
+        requires plain { has_signal (detail_of detail) ≡ false }
+        requires bare { images_of (detail_of detail) ≡ None }
+        requires room { view.object_count (state_answers self.old) < 65536 }
+        requires bytes { view.live_bytes (state_answers self.old) + view.detail_bytes (detail_of detail) ≤ 2 ^ 28 }
+        requires spare { 1 ≤ self.old.registry.objects.spare }
+        ensures step { state_answers self.new ≡ after (state_answers self.old) (creates id parent (detail_of detail)) }
+        ensures spare { self.new.registry.objects.spare + 1 ≡ self.old.registry.objects.spare }
+    {
+        self.registry.create_owned(id, parent, detail);
+        self.is_empty = false;
+    }
+
+    /// Sets the layout of a live image.
+    pub(crate) fn set_layout(&mut self, image: u64, layout: u32)
+        requires { IsTrue (view.is_live (state_answers self.old) kind.Image image) }
+        ensures { state_answers self.new ≡ after (state_answers self.old) (changes (set_layout image layout)) }
+    {
+        self.registry.set_layout(image, layout);
+        self.is_empty = false;
+    }
+
+    /// Signals a live fence or semaphore.
+    pub(crate) fn signal(&mut self, id: u64)
+        requires { passes (λ o. has_signal o.detail) ((state_answers self.old).live id) ≡ true }
+        ensures { state_answers self.new ≡ after (state_answers self.old) (signals id) }
+    {
+        self.registry.signal(id);
+        self.is_empty = false;
+    }
+
+    /// Takes the signal of a live fence or semaphore away.
+    pub(crate) fn unsignal(&mut self, id: u64)
+        requires { passes (λ o. has_signal o.detail) ((state_answers self.old).live id) ≡ true }
+        ensures { state_answers self.new ≡ after (state_answers self.old) (unsignals id) }
+    {
+        self.registry.unsignal(id);
+        self.is_empty = false;
+    }
+
+    /// Acquires an image of a live swapchain.
+    pub(crate) fn acquire(&mut self, swapchain: u64, index: u32)
+        requires live { view.is_live (state_answers self.old) kind.Swapchain swapchain ≡ true }
+        requires index { index < view.images_in (state_answers self.old) swapchain }
+        ensures { state_answers self.new ≡ after (state_answers self.old) (acquires swapchain index) }
+    {
+        self.registry.acquire(swapchain, index);
+        self.is_empty = false;
+    }
+
+    /// Gives an image of a live swapchain back.
+    pub(crate) fn give_back(&mut self, swapchain: u64, index: u32)
+        requires live { view.is_live (state_answers self.old) kind.Swapchain swapchain ≡ true }
+        requires index { index < view.images_in (state_answers self.old) swapchain }
+        ensures { state_answers self.new ≡ after (state_answers self.old) (gives_back swapchain index) }
+    {
+        self.registry.give_back(swapchain, index);
+        self.is_empty = false;
+    }
+
+    /// Begins to record into a live command buffer. For want of memory all is as it was.
+    pub(crate) fn begin(&mut self, cb: u64, flags: u32) -> Result<(), WantMemory>
+        requires { is_some ((state_answers self.old).live cb) ≡ true }
+        ensures ok { OnOk result (state_answers self.new ≡ after (state_answers self.old) (begins cb flags)) }
+        ensures err { OnErr result (state_answers self.new ≡ state_answers self.old) }
+    {
+        self.recordings.begin(cb, flags)?;
+        self.is_empty = false;
+        Ok(())
+    }
+
+    /// Adds a command to a live buffer that is recording. For want of memory all is as it was.
+    pub(crate) fn record(&mut self, cb: u64, call: &Call<'_>) -> Result<(), WantMemory>
+        requires live { is_some ((state_answers self.old).live cb) ≡ true }
+        requires recording { IsTrue (is_recording ((state_answers self.old).buffer cb).state) }
+        requires spelled { HasSpelling 1 (event_of_call call.now) }
+        requires few { commands_total self.old.recordings + 1 ≤ 2 ^ 20 }
+        requires small { bytes_total self.old.recordings + length (spelling 1 (event_of_call call.now)) ≤ 2 ^ 28 }
+        ensures ok { OnOk result (state_answers self.new ≡ after (state_answers self.old) (records cb (event_of_call call.now))) }
+        ensures err { OnErr result (state_answers self.new ≡ state_answers self.old) }
+    {
+        self.recordings.add(cb, call)?;
+        self.is_empty = false;
+        Ok(())
+    }
+
+    /// Ends the recording of a live buffer.
+    pub(crate) fn finish(&mut self, cb: u64)
+        requires live { is_some ((state_answers self.old).live cb) ≡ true }
+        requires recording { IsTrue (is_recording ((state_answers self.old).buffer cb).state) }
+        ensures { state_answers self.new ≡ after (state_answers self.old) (finishes cb) }
+    {
+        self.recordings.end(cb);
+        self.is_empty = false;
+    }
+
+    /// A command buffer is as a new one.
+    pub(crate) fn reset(&mut self, cb: u64)
+        ensures { state_answers self.new ≡ after (state_answers self.old) (resets cb) }
+    {
+        self.recordings.reset(cb);
+        self.is_empty = false;
+    }
+
+    /// All command buffers of a pool are as new ones.
+    pub(crate) fn reset_pool(&mut self, pool: u64)
+        ensures { state_answers self.new ≡ after (state_answers self.old) (resets_pool pool) }
+    {
+        self.recordings.reset_pool(pool, &self.registry.objects);
+        self.is_empty = false;
+    }
+
+    /// A command buffer was executed.
+    pub(crate) fn execute(&mut self, cb: u64)
+        ensures { state_answers self.new ≡ after (state_answers self.old) (executed cb) }
+    {
+        self.recordings.executed(cb);
+        self.is_empty = false;
+    }
+
+    /// A section begins, before a frame.
+    pub(crate) fn begin_section(&mut self, frame: u64)
+        ensures { state_answers self.new ≡ after (state_answers self.old) (begins_section frame) }
+    {
+        self.next_frame = frame;
+        self.is_empty = false;
+        self.section = Some(frame);
+    }
+
+    /// The section ends.
+    pub(crate) fn end_section(&mut self)
+        ensures { state_answers self.new ≡ after (state_answers self.old) ends_section }
+    {
+        self.is_empty = false;
+        self.section = None;
+    }
+
+    /// A frame is shown.
+    pub(crate) fn present(&mut self)
+        requires { (state_answers self.old).next_frame ≤ 2 ^ 62 }
+        ensures { state_answers self.new ≡ after (state_answers self.old) presents }
+    {
+        self.next_frame += 1;
         self.is_empty = false;
     }
 }
