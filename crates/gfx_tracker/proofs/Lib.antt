@@ -1,3 +1,4 @@
 pub mod Told
 pub mod Registered
 pub mod Gathered
+pub mod Next

@@ -2,3 +2,4 @@ pub mod Registered
 pub mod Registry
 pub mod Gathered
 pub mod State
+pub mod Taking

@@ -1,5 +1,6 @@
 //! The tracker: what stands after a capture's effects, and which effect may follow.
 #![tactic(auto)]
 
+mod creations;
 mod registry;
 mod state;

@@ -54,7 +54,7 @@ impl Registry {
         requires unused { (answers_of self.old).used id ≡ false }
         requires fresh { is_some ((answers_of self.old).live id) ≡ false }
         requires new { IsNew detail }
-        requires within { IsTrue (is_within (detail_of detail)) }
+        requires within { is_within (detail_of detail) ≡ true }
         requires room { view.object_count (answers_of self.old) < 65536 }
         requires bytes { view.live_bytes (answers_of self.old) + view.detail_bytes (detail_of detail) ≤ 2 ^ 28 }
         ensures ok { OnOk result (answers_of self.new ≡ after (answers_of self.old) (creates id parent (detail_of detail))) }
@@ -72,7 +72,7 @@ impl Registry {
         requires unused { (answers_of self.old).used id ≡ false }
         requires fresh { is_some ((answers_of self.old).live id) ≡ false }
         requires new { IsNew detail }
-        requires within { IsTrue (is_within (detail_of detail)) }
+        requires within { is_within (detail_of detail) ≡ true }
         requires plain { has_signal (detail_of detail) ≡ false }
         requires bare { images_of (detail_of detail) ≡ None }
         requires room { view.object_count (answers_of self.old) < 65536 }

@@ -9,12 +9,13 @@ ghost use Rattle.gfx_model.specs.Questions.{passes};
 ghost use Rattle.gfx_model.specs.Checks.{is_recording};
 ghost use Rattle.gfx_model.specs.Views as view;
 ghost use Rattle.gfx_model.specs.After.{after};
-ghost use Rattle.gfx_objects.specs.Object.{detail_of, IsNew, is_within};
+ghost use Rattle.gfx_objects.specs.Object.{detail_of, IsNew};
 ghost use Rattle.gfx_objects.specs.Objects.{answers};
 ghost use Rattle.gfx_commands.specs.Recordings.{buffers, commands_total, bytes_total};
 ghost use Rattle.gfx_laws.specs.Lawful.{has_signal};
 ghost use Rattle.gfx_tracker.specs.Registered.{images_of};
 ghost use Rattle.gfx_tracker.specs.Gathered.{IsPlain};
+ghost use Rattle.gfx_tracker.specs.Taking.{MayCreate};
 
 use crate::registry::Registry;
 use gfx_commands::Recordings;
@@ -59,13 +60,8 @@ impl State {
     /// Creates an object, a fence or semaphore unsignalled, a swapchain with no image acquired. For want of memory all
     /// is as it was.
     pub(crate) fn create(&mut self, id: u64, parent: u64, detail: Detail) -> Result<(), WantMemory>
-        requires not_zero { 0 < id }
-        requires unused { (state_answers self.old).used id ≡ false }
-        requires fresh { is_some ((state_answers self.old).live id) ≡ false }
+        requires may { MayCreate (state_answers self.old) id (detail_of detail) }
         requires new { IsNew detail }
-        requires within { IsTrue (is_within (detail_of detail)) }
-        requires room { view.object_count (state_answers self.old) < 65536 }
-        requires bytes { view.live_bytes (state_answers self.old) + view.detail_bytes (detail_of detail) ≤ 2 ^ 28 }
         ensures ok { OnOk result (state_answers self.new ≡ after (state_answers self.old) (creates id parent (detail_of detail))) }
         ensures err { OnErr result (state_answers self.new ≡ state_answers self.old) }
     {
@@ -121,15 +117,10 @@ impl State {
 
     /// Creates a queue, a command buffer or an image of a swapchain, for which there is room.
     pub(crate) fn create_owned(&mut self, id: u64, parent: u64, detail: Detail)
-        requires not_zero { 0 < id }
-        requires unused { (state_answers self.old).used id ≡ false }
-        requires fresh { is_some ((state_answers self.old).live id) ≡ false }
+        requires may { MayCreate (state_answers self.old) id (detail_of detail) }
         requires new { IsNew detail }
-        requires within { IsTrue (is_within (detail_of detail)) }
         requires plain { has_signal (detail_of detail) ≡ false }
         requires bare { images_of (detail_of detail) ≡ None }
-        requires room { view.object_count (state_answers self.old) < 65536 }
-        requires bytes { view.live_bytes (state_answers self.old) + view.detail_bytes (detail_of detail) ≤ 2 ^ 28 }
         requires spare { 1 ≤ self.old.registry.objects.spare }
         ensures step { state_answers self.new ≡ after (state_answers self.old) (creates id parent (detail_of detail)) }
         ensures spare { self.new.registry.objects.spare + 1 ≡ self.old.registry.objects.spare }

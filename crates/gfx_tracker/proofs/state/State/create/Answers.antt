@@ -13,4 +13,4 @@ pub returns-clause-ok : goal.returns-clause-ok
 returns-clause-ok c =
     let s = c.args.self.now in
     made_gathered (answers_of s.registry) (answers_of c.create.new.self) (buffers s.recordings) s.next_frame s.is_empty s.section c.args.id c.args.parent (detail_of c.args.detail)
-    c.in_ok-create.ensures.ok s.plain c.requires.fresh
+    c.in_ok-create.ensures.ok s.plain c.requires.may.fresh

@@ -13,4 +13,4 @@ pub returns-clause-step : goal.returns-clause-step
 returns-clause-step c =
     let s = c.args.self.now in
     made_gathered (answers_of s.registry) (answers_of c.create_owned.new.self) (buffers s.recordings) s.next_frame s.is_empty s.section c.args.id c.args.parent (detail_of c.args.detail)
-    c.create_owned.ensures.step s.plain c.requires.fresh
+    c.create_owned.ensures.step s.plain c.requires.may.fresh

@@ -1,0 +1,98 @@
+-- What is known of an effect that may be taken: what its steps need.
+use Rattle.std.proofs.Common.{◌≡◌, ℕ, ◌==◌, ◌<◌, ◌≤◌, ◌+◌, ◌^◌, Bool, true, false, ◌&&◌, List, [], ◌∷◌, Option, Some, None, is_some, refl, ap, sym, subst, ◌∙◌, arith}
+use Rattle.std.specs.Prelude.{fold, nat_le}
+use Rattle.std.specs.List.{AllByRecursion}
+use Rattle.std.proofs.Math.Logic.{∥∥₁_elim}
+use Rattle.std.proofs.Props.{props}
+use Rattle.std.proofs.lemmas.Bool.{and_parts}
+use Rattle.std.proofs.lemmas.Bool.Decides.{nat_tests}
+use Rattle.gfx_types.specs.Names.{format_of}
+use Rattle.gfx_types.specs.declared.names.Kind.{Kind}
+use Rattle.gfx_model.specs.Events.{Event}
+use Rattle.gfx_model.specs.Steps.{Step, Object, Detail, kind_of, kind_number}
+use Rattle.gfx_model.specs.Steps.Detail.{a_memory, an_image, a_swapchain, a_buffer}
+use Rattle.gfx_model.specs.Steps.Change.{set_layout}
+use Rattle.gfx_model.specs.Steps.Step.{taken, creates, changes}
+use Rattle.gfx_model.specs.Questions.{passes}
+use Rattle.gfx_model.specs.Views.{View, is_live, object_count, live_bytes, detail_bytes}
+use Rattle.gfx_model.specs.Checks.{Check, broken, first_broken}
+use Rattle.gfx_model.specs.Checks.Check.{live}
+use Rattle.gfx_model.specs.Table.{checks_of, is_positive}
+use Rattle.gfx_model.specs.Effects.{effect_of, steps_of}
+use Rattle.gfx_model.specs.After.{after}
+use Rattle.gfx_model.proofs.Covered.{unless_none}
+use Rattle.gfx_laws.specs.Lawful.{IsLawful, Passes, is_allowed}
+use Rattle.gfx_laws.proofs.Ready.{AllReady, AllRoom, HasBytes}
+use Rattle.gfx_laws.proofs.NewObjects.{all_pass}
+use Rattle.gfx_laws.proofs.EventReady.{event_ready}
+use Rattle.gfx_laws.proofs.EventRoom.{event_room}
+use Rattle.gfx_objects.specs.Object.{is_within}
+use Rattle.gfx_tracker.specs.Taking.{after_event, IsNext, MayCreate}
+
+-- ---- an event of one step
+
+absorbed : (v : View) (s : Step) → after (after v taken) s ≡ after v s
+unfolding after
+absorbed v (changes (set_layout i l)) = refl
+absorbed v (changes _) = refl
+absorbed v _ = refl
+
+-- the answers after an event of one step or more, from those after the first
+pub after_steps : (v : View) (e : Event) (s : Step) (ss : List Step) → effect_of v e ≡ s ∷ ss → fold after (after v s) ss ≡ after_event v e
+after_steps v e s ss is = ap (λ w. fold after w ss) (sym (absorbed v s)) ∙ ap (fold after (after v taken)) (sym is)
+
+pub after_one : (v : View) (e : Event) (s : Step) → effect_of v e ≡ s ∷ [] → after v s ≡ after_event v e
+after_one v e s is = after_steps v e s [] is
+
+pub after_none : (v : View) (e : Event) → effect_of v e ≡ [] → after v taken ≡ after_event v e
+after_none v e is = ap (fold after (after v taken)) (sym is)
+
+-- ---- a creation
+
+allowed_within : (d : Detail) → is_allowed d ≡ true → is_within d ≡ true
+allowed_within (an_image format width height usage index) e =
+    (and_parts (is_some (format_of format) && is_positive width && is_positive height && is_positive usage) (nat_le width 4096 && nat_le height 4096) e).1
+allowed_within (a_swapchain surface images format width height usage) e =
+    (and_parts (is_positive images && is_positive width && is_positive height && is_positive usage && is_some (format_of format)) (nat_le images 16 && nat_le width 4096 && nat_le height 4096) e).1
+allowed_within _ e = refl
+
+bytes_of_room : (v : View) (d : Detail) → live_bytes v ≤ 2 ^ 28 → HasBytes v d → live_bytes v + detail_bytes d ≤ 2 ^ 28
+bytes_of_room v (a_memory size) few room = room
+bytes_of_room v (a_swapchain surface images format width height usage) few room = room
+bytes_of_room v _ few room = omega arith
+
+-- what is not used is not live
+unused_dead : (v : View) → IsLawful v [] → (x : ℕ) → v.used x ≡ false → is_some (v.live x) ≡ false
+unused_dead v h x unused = by (v.live x) refl
+  where
+    by : (o : Option Object) → v.live x ≡ o → is_some o ≡ false
+    by None e = refl
+    by (Some o) e = let used = (h.objects).used x o e in absurd (cc (used, unused))
+
+created_by : (v : View) (e : Event) (id p : ℕ) (d : Detail) (ss : List Step) → first_broken v (checks_of e) ≡ None → effect_of v e ≡ creates id p d ∷ ss → IsLawful v [] → MayCreate v id d
+unfolding after
+created_by v e id p d ss pass is h =
+    let ready : AllReady v (taken ∷ creates id p d ∷ ss) = subst (λ es. AllReady v (taken ∷ es)) is (event_ready v [] h e pass) in
+    let room : AllRoom v (taken ∷ creates id p d ∷ ss) = subst (λ es. AllRoom v (taken ∷ es)) is (event_room v e pass) in
+    let positive = ready.1.0.positive in
+    record {
+      not_zero = grind (arith, nat_tests, positive);
+      unused = ready.1.0.unused;
+      fresh = unused_dead v h id ready.1.0.unused;
+      within = allowed_within d ready.1.0.allowed;
+      room = room.1.0.0;
+      bytes = bytes_of_room v d (h.limits).bytes room.1.0.1;
+    }
+
+pub may_create : (v : View) (e : Event) (id p : ℕ) (d : Detail) (ss : List Step) → IsNext v e → effect_of v e ≡ creates id p d ∷ ss → MayCreate v id d
+may_create v e id p d ss next is = ∥∥₁_elim next.lawful (hlevel props) (created_by v e id p d ss next.passes is)
+
+-- ---- checks that pass
+
+pub live_some : (v : View) (k : Kind) (x : ℕ) → Passes v (live k x) → is_some (v.live x) ≡ true
+unfolding broken
+live_some v k x e = by (v.live x) (unless_none _ _ e)
+  where
+    by : (o : Option Object) → passes (λ o. kind_number (kind_of o.detail) == kind_number k) o ≡ true → is_some o ≡ true
+    by None e = absurd cc
+    by (Some o) e = refl

@@ -1,0 +1,29 @@
+-- An effect that may be taken, and what stands after it.
+use Rattle.std.specs.Prelude.{◌≡◌, ◌<◌, ◌≤◌, ◌+◌, ◌^◌, ℕ, true, false, [], None, is_some, fold}
+use Rattle.gfx_model.specs.Events.{Event}
+use Rattle.gfx_model.specs.Steps.{Detail}
+use Rattle.gfx_model.specs.Views.{View, object_count, live_bytes, detail_bytes}
+use Rattle.gfx_model.specs.Checks.{first_broken}
+use Rattle.gfx_model.specs.Table.{checks_of}
+use Rattle.gfx_model.specs.Effects.{steps_of}
+use Rattle.gfx_model.specs.After.{after}
+use Rattle.gfx_laws.specs.Lawful.{IsLawful}
+use Rattle.gfx_objects.specs.Object.{is_within}
+
+-- the answers after an event
+abbrev pub after_event : View → Event → View
+after_event v e = fold after v (steps_of v e)
+
+-- the answers are as after some valid history, and the event breaks no check
+pub record IsNext (v : View) (e : Event) : Type 0 where
+  pub passes : first_broken v (checks_of e) ≡ None
+  pub lawful : ∥ IsLawful v [] ∥₁
+
+-- an object of these parameters may be created under the id
+pub record MayCreate (v : View) (id : ℕ) (d : Detail) : Type 0 where
+  pub not_zero : 0 < id
+  pub unused : v.used id ≡ false
+  pub fresh : is_some (v.live id) ≡ false
+  pub within : is_within d ≡ true
+  pub room : object_count v < 65536
+  pub bytes : live_bytes v + detail_bytes d ≤ 2 ^ 28
