@@ -1,7 +1,6 @@
 -- What is known of an effect that may be taken: what its steps need.
-use Rattle.std.proofs.Common.{◌≡◌, ℕ, ◌==◌, ◌<◌, ◌≤◌, ◌+◌, ◌^◌, Bool, true, false, ◌&&◌, List, [], ◌∷◌, Option, Some, None, is_some, refl, ap, sym, subst, ◌∙◌, arith}
+use Rattle.std.proofs.Common.{◌≡◌, if◌then◌else◌, ℕ, ◌==◌, ◌≤◌, ◌+◌, ◌^◌, Bool, true, false, ◌&&◌, List, [], ◌∷◌, Option, Some, None, is_some, refl, ap, sym, subst, ◌∙◌, arith}
 use Rattle.std.specs.Prelude.{fold, nat_le}
-use Rattle.std.specs.List.{AllByRecursion}
 use Rattle.std.proofs.Math.Logic.{∥∥₁_elim}
 use Rattle.std.proofs.Props.{props}
 use Rattle.std.proofs.lemmas.Bool.{and_parts}
@@ -10,20 +9,19 @@ use Rattle.gfx_types.specs.Names.{format_of}
 use Rattle.gfx_types.specs.declared.names.Kind.{Kind}
 use Rattle.gfx_model.specs.Events.{Event}
 use Rattle.gfx_model.specs.Steps.{Step, Object, Detail, kind_of, kind_number}
-use Rattle.gfx_model.specs.Steps.Detail.{a_memory, an_image, a_swapchain, a_buffer}
+use Rattle.gfx_model.specs.Steps.Detail.{a_memory, an_image, a_swapchain}
 use Rattle.gfx_model.specs.Steps.Change.{set_layout}
 use Rattle.gfx_model.specs.Steps.Step.{taken, creates, changes}
 use Rattle.gfx_model.specs.Questions.{passes}
-use Rattle.gfx_model.specs.Views.{View, is_live, object_count, live_bytes, detail_bytes}
-use Rattle.gfx_model.specs.Checks.{Check, broken, first_broken}
+use Rattle.gfx_model.specs.Views.{View, live_bytes, detail_bytes}
+use Rattle.gfx_model.specs.Checks.{broken, first_broken}
 use Rattle.gfx_model.specs.Checks.Check.{live}
 use Rattle.gfx_model.specs.Table.{checks_of, is_positive}
-use Rattle.gfx_model.specs.Effects.{effect_of, steps_of}
+use Rattle.gfx_model.specs.Effects.{effect_of}
 use Rattle.gfx_model.specs.After.{after}
 use Rattle.gfx_model.proofs.Covered.{unless_none}
 use Rattle.gfx_laws.specs.Lawful.{IsLawful, Passes, is_allowed}
 use Rattle.gfx_laws.proofs.Ready.{AllReady, AllRoom, HasBytes}
-use Rattle.gfx_laws.proofs.NewObjects.{all_pass}
 use Rattle.gfx_laws.proofs.EventReady.{event_ready}
 use Rattle.gfx_laws.proofs.EventRoom.{event_room}
 use Rattle.gfx_objects.specs.Object.{is_within}
@@ -96,3 +94,12 @@ live_some v k x e = by (v.live x) (unless_none _ _ e)
     by : (o : Option Object) → passes (λ o. kind_number (kind_of o.detail) == kind_number k) o ≡ true → is_some o ≡ true
     by None e = absurd cc
     by (Some o) e = refl
+
+-- the object that was created is live
+pub made_there : (v w : View) (id p : ℕ) (d : Detail) → w ≡ after v (creates id p d) → w.live id ≡ Some (record { parent = p; detail = d })
+unfolding after
+made_there v w id p d is = ap (λ (v : View). v.live id) is ∙ by (id == id) (let same : (id == id) ≡ true = grind (arith, nat_tests) in same)
+  where
+    by : (t : Bool) → t ≡ true → (if t then Some (record { parent = p; detail = d }) else v.live id) ≡ Some (record { parent = p; detail = d })
+    by true e = refl
+    by false e = absurd cc

@@ -2,5 +2,6 @@
 #![tactic(auto)]
 
 mod creations;
+mod ends;
 mod registry;
 mod state;

@@ -1,0 +1,18 @@
+use Rattle.std.proofs.Common.{◌≡◌, refl, subst, [], OnOk}
+use Rattle.gfx_model.specs.Events.Event.{AllocateMemory}
+use Rattle.gfx_model.specs.Steps.Detail.{a_memory}
+use Rattle.gfx_model.specs.Steps.Step.{creates}
+use Rattle.gfx_model.specs.Effects.{effect_of}
+use Rattle.gfx_tracker.specs.State.{state_answers}
+use Rattle.gfx_tracker.proofs.Next.{may_create, after_one}
+use Rattle.gfx_tracker.proofs.creations.allocate_memory.Goals as goal
+
+pub create-requires-clause-may : goal.create-requires-clause-may
+unfolding effect_of
+create-requires-clause-may c = may_create (state_answers c.args.state.now) (AllocateMemory c.args.device c.args.memory c.args.size) c.args.memory c.args.device (a_memory c.args.size) [] c.requires refl
+
+pub returns-clause-ok : goal.returns-clause-ok
+unfolding effect_of
+returns-clause-ok c =
+    subst (λ v. OnOk c.create.result (state_answers c.create.new.self ≡ v))
+    (after_one (state_answers c.args.state.now) (AllocateMemory c.args.device c.args.memory c.args.size) (creates c.args.memory c.args.device (a_memory c.args.size)) refl) c.create.ensures.ok

@@ -1,0 +1,21 @@
+use Rattle.std.proofs.Common.{refl, ◌∙◌}
+use Rattle.gfx_types.specs.declared.names.Kind.TheVariants as kind
+use Rattle.gfx_model.specs.Events.Event.{DestroySurfaceKHR}
+use Rattle.gfx_model.specs.Spelling.{id_of}
+use Rattle.gfx_model.specs.Steps.Step.{ends}
+use Rattle.gfx_model.specs.Table.{place_of, row_of, checks_of}
+use Rattle.gfx_model.specs.Effects.{effect_of}
+use Rattle.gfx_laws.proofs.NewObjects.{all_pass}
+use Rattle.gfx_tracker.specs.State.{state_answers}
+use Rattle.gfx_tracker.proofs.Next.{live_some, after_one}
+use Rattle.gfx_tracker.proofs.ends.destroy_surface.Goals as goal
+
+pub end-requires : goal.end-requires
+unfolding place_of row_of id_of
+end-requires c =
+    let v = state_answers c.args.state.now in
+    live_some v kind.Surface c.args.surface (all_pass v (checks_of (DestroySurfaceKHR c.args._instance c.args.surface)) c.requires.passes).1.1.0
+
+pub returns : goal.returns
+unfolding effect_of
+returns c = c.end.ensures ∙ after_one (state_answers c.args.state.now) (DestroySurfaceKHR c.args._instance c.args.surface) (ends c.args.surface) refl
