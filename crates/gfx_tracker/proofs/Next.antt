@@ -13,7 +13,7 @@ use Rattle.gfx_model.specs.Steps.Detail.{a_memory, an_image, a_swapchain}
 use Rattle.gfx_model.specs.Steps.Change.{set_layout}
 use Rattle.gfx_model.specs.Steps.Step.{taken, creates, changes}
 use Rattle.gfx_model.specs.Questions.{passes}
-use Rattle.gfx_model.specs.Views.{View, live_bytes, detail_bytes}
+use Rattle.gfx_model.specs.Views.{View, is_live, live_bytes, detail_bytes}
 use Rattle.gfx_model.specs.Checks.{broken, first_broken}
 use Rattle.gfx_model.specs.Checks.Check.{live}
 use Rattle.gfx_model.specs.Table.{checks_of, is_positive}
@@ -103,3 +103,7 @@ made_there v w id p d is = ap (λ (v : View). v.live id) is ∙ by (id == id) (l
     by : (t : Bool) → t ≡ true → (if t then Some (record { parent = p; detail = d }) else v.live id) ≡ Some (record { parent = p; detail = d })
     by true e = refl
     by false e = absurd cc
+
+pub is_live_by : (v : View) (k : Kind) (x : ℕ) → Passes v (live k x) → is_live v k x ≡ true
+unfolding broken
+is_live_by v k x e = unless_none _ _ e

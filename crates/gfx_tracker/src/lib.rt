@@ -3,5 +3,8 @@
 
 mod creations;
 mod ends;
+mod markers;
 mod registry;
+mod resources;
 mod state;
+mod waits;
