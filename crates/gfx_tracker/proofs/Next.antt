@@ -1,26 +1,28 @@
 -- What is known of an effect that may be taken: what its steps need.
-use Rattle.std.proofs.Common.{◌≡◌, if◌then◌else◌, ℕ, ◌==◌, ◌≤◌, ◌+◌, ◌^◌, Bool, true, false, ◌&&◌, List, [], ◌∷◌, Option, Some, None, is_some, refl, ap, sym, subst, ◌∙◌, arith}
+use Rattle.std.proofs.Common.{◌≡◌, if◌then◌else◌, ℕ, ◌==◌, ◌<◌, ◌≤◌, ◌+◌, ◌^◌, Bool, true, false, ◌&&◌, List, [], ◌∷◌, ◌++◌, Option, Some, None, is_some, refl, ap, sym, subst, ◌∙◌, arith}
 use Rattle.std.specs.Prelude.{fold, nat_le}
+use Rattle.std.specs.List.{AllByRecursion}
 use Rattle.std.proofs.Math.Logic.{∥∥₁_elim}
 use Rattle.std.proofs.Props.{props}
-use Rattle.std.proofs.lemmas.Bool.{and_parts}
+use Rattle.std.proofs.lemmas.Bool.{and_parts, ltb-true}
 use Rattle.std.proofs.lemmas.Bool.Decides.{nat_tests}
 use Rattle.gfx_types.specs.Names.{format_of}
 use Rattle.gfx_types.specs.declared.names.Kind.{Kind}
+use Rattle.gfx_types.specs.declared.names.Kind.TheVariants as kind
 use Rattle.gfx_model.specs.Events.{Event}
 use Rattle.gfx_model.specs.Steps.{Step, Object, Detail, kind_of, kind_number}
-use Rattle.gfx_model.specs.Steps.Detail.{a_memory, an_image, a_swapchain}
+use Rattle.gfx_model.specs.Steps.Detail.{a_memory, an_image, a_swapchain, a_fence, a_semaphore}
 use Rattle.gfx_model.specs.Steps.Change.{set_layout}
-use Rattle.gfx_model.specs.Steps.Step.{taken, creates, changes}
+use Rattle.gfx_model.specs.Steps.Step.{taken, creates, changes, signals, acquires}
 use Rattle.gfx_model.specs.Questions.{passes}
-use Rattle.gfx_model.specs.Views.{View, is_live, live_bytes, detail_bytes}
+use Rattle.gfx_model.specs.Views.{View, is_live, images_in, live_bytes, detail_bytes, object_count}
 use Rattle.gfx_model.specs.Checks.{broken, first_broken}
-use Rattle.gfx_model.specs.Checks.Check.{live}
-use Rattle.gfx_model.specs.Table.{checks_of, is_positive}
-use Rattle.gfx_model.specs.Effects.{effect_of}
+use Rattle.gfx_model.specs.Checks.Check.{live, of, unsignalled, index_in, not_acquired, all_acquired}
+use Rattle.gfx_model.specs.Table.{checks_of, is_positive, to_signal, acquire_answer, value}
+use Rattle.gfx_model.specs.Effects.{effect_of, steps_of, signals_any}
 use Rattle.gfx_model.specs.After.{after}
 use Rattle.gfx_model.proofs.Covered.{unless_none}
-use Rattle.gfx_laws.specs.Lawful.{IsLawful, Passes, is_allowed}
+use Rattle.gfx_laws.specs.Lawful.{IsLawful, Passes, is_allowed, has_signal}
 use Rattle.gfx_laws.proofs.Ready.{AllReady, AllRoom, HasBytes}
 use Rattle.gfx_laws.proofs.EventReady.{event_ready}
 use Rattle.gfx_laws.proofs.EventRoom.{event_room}
@@ -107,3 +109,74 @@ made_there v w id p d is = ap (λ (v : View). v.live id) is ∙ by (id == id) (l
 pub is_live_by : (v : View) (k : Kind) (x : ℕ) → Passes v (live k x) → is_live v k x ≡ true
 unfolding broken
 is_live_by v k x e = unless_none _ _ e
+
+-- ---- fences and semaphores
+
+fence_has : (v : View) (x : ℕ) → is_live v kind.Fence x ≡ true → passes (λ o. has_signal o.detail) (v.live x) ≡ true
+fence_has v x e = by (v.live x) e
+  where
+    at : (d : Detail) → (kind_number (kind_of d) == 10) ≡ true → has_signal d ≡ true
+    at a_fence e = refl
+    at _ e = absurd cc
+
+    by : (o : Option Object) → passes (λ o. kind_number (kind_of o.detail) == 10) o ≡ true → passes (λ o. has_signal o.detail) o ≡ true
+    by None e = absurd cc
+    by (Some o) e = at o.detail e
+
+semaphore_has : (v : View) (x : ℕ) → is_live v kind.Semaphore x ≡ true → passes (λ o. has_signal o.detail) (v.live x) ≡ true
+semaphore_has v x e = by (v.live x) e
+  where
+    at : (d : Detail) → (kind_number (kind_of d) == 11) ≡ true → has_signal d ≡ true
+    at a_semaphore e = refl
+    at _ e = absurd cc
+
+    by : (o : Option Object) → passes (λ o. kind_number (kind_of o.detail) == 11) o ≡ true → passes (λ o. has_signal o.detail) o ≡ true
+    by None e = absurd cc
+    by (Some o) e = at o.detail e
+
+pub fence_signal : (v : View) (x : ℕ) → Passes v (live kind.Fence x) → passes (λ o. has_signal o.detail) (v.live x) ≡ true
+fence_signal v x e = fence_has v x (is_live_by v kind.Fence x e)
+
+pub semaphore_signal : (v : View) (x : ℕ) → Passes v (live kind.Semaphore x) → passes (λ o. has_signal o.detail) (v.live x) ≡ true
+semaphore_signal v x e = semaphore_has v x (is_live_by v kind.Semaphore x e)
+
+-- what an acquire signals is live, where it is not 0
+pub to_signal_live : (v : View) (k : Kind) (device x : ℕ) → AllByRecursion (Passes v) (to_signal k device x) → (x == 0) ≡ false → Passes v (live k x)
+to_signal_live v k device x all not_zero = by (x == 0) not_zero all
+  where
+    by : (t : Bool) → t ≡ false → AllByRecursion (Passes v) (if t then [] else live k x ∷ of x device ∷ unsignalled x ∷ []) → Passes v (live k x)
+    by true e all = absurd cc
+    by false e all = all.0
+
+pub index_below : (v : View) (swapchain index : ℕ) → Passes v (index_in swapchain index) → index < images_in v swapchain
+unfolding broken
+index_below v swapchain index e = ltb-true index (images_in v swapchain) (unless_none _ _ e)
+
+-- the first check of an answer that is not 1
+pub answer_index : (v : View) (swapchain index answer : ℕ) → (answer == 1) ≡ false → AllByRecursion (Passes v) (acquire_answer swapchain index answer) → index < images_in v swapchain
+answer_index v swapchain index answer other all = by (answer == 1) other all
+  where
+    by : (t : Bool) → t ≡ false → AllByRecursion (Passes v) (if t then value (index == 0) ∷ all_acquired swapchain ∷ [] else index_in swapchain index ∷ not_acquired swapchain index ∷ []) → index < images_in v swapchain
+    by true e all = absurd cc
+    by false e all = index_below v swapchain index all.0
+
+fold-append : {X Y : Type 0} (f : X → Y → X) (x : X) (ys zs : List Y) → fold f x (ys ++ zs) ≡ fold f (fold f x ys) zs
+fold-append f x [] zs = refl
+fold-append f x (y ∷ ys) zs = fold-append f (f x y) ys zs
+
+-- the answers after steps in two parts
+pub after_parts : (v : View) (e : Event) (s : Step) (ss ts : List Step) → effect_of v e ≡ s ∷ ss ++ ts → fold after (fold after (after v s) ss) ts ≡ after_event v e
+after_parts v e s ss ts is = sym (fold-append after (after v s) ss ts) ∙ after_steps v e s (ss ++ ts) is
+
+-- signals leave what is live
+pub signals_live : (w : View) (id x : ℕ) → (fold after w (signals_any id)).live x ≡ w.live x
+unfolding after
+signals_live w id x = by (id == 0)
+  where
+    by : (t : Bool) → (fold after w (if t then [] else signals id ∷ [])).live x ≡ w.live x
+    by true = refl
+    by false = refl
+
+pub acquires_live : (v w : View) (swapchain index x : ℕ) → w ≡ after v (acquires swapchain index) → w.live x ≡ v.live x
+unfolding after
+acquires_live v w swapchain index x is = ap (λ (v : View). v.live x) is

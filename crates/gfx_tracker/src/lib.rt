@@ -7,4 +7,5 @@ mod markers;
 mod registry;
 mod resources;
 mod state;
+mod swapchains;
 mod waits;
