@@ -2,3 +2,4 @@ pub mod Told
 pub mod Registered
 pub mod Gathered
 pub mod Next
+pub mod Fetched

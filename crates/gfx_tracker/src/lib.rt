@@ -4,6 +4,7 @@
 mod creations;
 mod ends;
 mod markers;
+mod queues;
 mod registry;
 mod resources;
 mod state;
