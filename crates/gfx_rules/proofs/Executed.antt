@@ -1,6 +1,5 @@
 -- Command buffers that are executed one after another, submit by submit.
 use Rattle.std.proofs.Common.{◌≡◌, ◌<◌, ◌≤◌, ◌+◌, ◌==◌, ℕ, zero, suc, Bool, true, false, not, List, [], ◌∷◌, ◌++◌, Option, Some, None, map, flat_map, length, take, drop, get_or, refl, sym, ap, ◌∙◌, append_assoc, append-nil, add-one, if◌then◌else◌}
-use Rattle.std.specs.List.{slice_get}
 use Rattle.std.specs.Option.{option_map_or}
 use Rattle.std.proofs.lemmas.List.{at_drop_more, at_drop_all, take_more}
 use Rattle.std.proofs.lemmas.Option.{slice_get_read}
@@ -12,7 +11,7 @@ use Rattle.gfx_model.specs.Views.{View}
 use Rattle.gfx_model.specs.Checks.{Turn, Layouts, turns_of, turns_of_submit, turns_fault, but, layouts_after, meets, is_executable, unless, first}
 use Rattle.gfx_model.specs.Checks.Turn.{wait, execute, signal}
 use Rattle.gfx_model.specs.Checks.Layouts.{stays, goes}
-use Rattle.gfx_rules.specs.Layouts.{asked_in, cbs_at, executed_before}
+use Rattle.gfx_rules.specs.Layouts.{asked_in}
 use Rattle.gfx_rules.specs.Turns.{signals_after, signals_behind, layouts_behind, turns_at}
 use Rattle.gfx_rules.proofs.Joined.{first_assoc}
 use Rattle.gfx_rules.proofs.Signals.{signals_append, after_executes, flat_append}

@@ -1,8 +1,7 @@
 -- Ids that are new one after another, from a place on.
-use Rattle.std.proofs.Common.{◌≡◌, ◌<◌, ◌≤◌, ◌||◌, ◌==◌, ℕ, ◌+◌, Bool, true, false, not, List, [], ◌∷◌, ◌++◌, length, take, drop, get_or, reverse, Option, Some, None, refl, sym, ap, ◌∙◌, arith}
+use Rattle.std.proofs.Common.{◌≡◌, ◌<◌, ◌≤◌, ◌||◌, ◌==◌, ℕ, ◌+◌, false, not, List, [], ◌∷◌, length, take, drop, get_or, reverse, Option, Some, None, refl, sym, ap, ◌∙◌, arith}
 use Rattle.std.proofs.lemmas.Bool.Decides.{nat_tests}
-use Rattle.std.specs.List.{list_any}
-use Rattle.std.proofs.lemmas.List.{at_drop_more, at_drop_all, take_more, reverse-append}
+use Rattle.std.proofs.lemmas.List.{at_drop_more, take_more, reverse-append}
 use Rattle.std.proofs.lemmas.List.Folds.{list_any_more}
 use Rattle.std.proofs.lemmas.List.Sorted.{list_any-IsPermutation, IsPermutation-reverse}
 use Rattle.gfx_types.specs.declared.names.Fault.{Fault}

@@ -1,16 +1,13 @@
 -- Turns that stand one list after another, and what they leave.
-use Rattle.std.proofs.Common.{◌≡◌, ◌<◌, ◌≤◌, ◌+◌, ◌==◌, ◌&&◌, ◌||◌, ℕ, zero, suc, Bool, true, false, not, List, [], ◌∷◌, ◌++◌, Option, Some, None, map, flat_map, length, take, drop, get_or, refl, sym, ap, ◌∙◌, append_assoc, append-nil, if◌then◌else◌}
+use Rattle.std.proofs.Common.{◌≡◌, ◌<◌, ◌≤◌, ◌+◌, ◌==◌, ◌&&◌, ◌||◌, ℕ, Bool, true, false, not, List, [], ◌∷◌, ◌++◌, Option, Some, None, map, flat_map, length, take, drop, get_or, refl, sym, ap, ◌∙◌, append_assoc, append-nil, if◌then◌else◌}
 use Rattle.std.proofs.lemmas.List.{at_drop_more, at_drop_all, take_more, map-append}
 use Rattle.gfx_types.specs.declared.names.Fault.{Fault}
-use Rattle.gfx_types.specs.declared.names.Fault.TheVariants.{SignalState, CommandState, LayoutDiffers}
+use Rattle.gfx_types.specs.declared.names.Fault.TheVariants.{SignalState}
 use Rattle.gfx_types.specs.declared.lists.Submit.{Submit}
-use Rattle.gfx_model.specs.Questions.{Buffer}
 use Rattle.gfx_model.specs.Views.{View}
-use Rattle.gfx_model.specs.Checks.{Turn, Layouts, turns_of_submit, turns_fault, but, layouts_after, meets, is_among, is_executable, unless, first}
+use Rattle.gfx_model.specs.Checks.{Turn, turns_of_submit, turns_fault, but, is_among, unless, first}
 use Rattle.gfx_model.specs.Checks.Turn.{wait, execute, signal}
-use Rattle.gfx_model.specs.Checks.Layouts.{stays, goes}
-use Rattle.gfx_rules.specs.Layouts.{asked_in}
-use Rattle.gfx_rules.specs.Turns.{signals_after, signals_behind, layouts_behind}
+use Rattle.gfx_rules.specs.Turns.{signals_after, signals_behind}
 
 -- ---- what is signalled
 

@@ -5,7 +5,8 @@ ghost use Rattle.gfx_model.specs.Checks as words;
 
 use gfx_types::{Fault, Kind};
 
-/// One check of a row. Offsets, ends and sizes are in bytes.
+/// One check of a row: a word of the call table, with what it is about in the table's order. Offsets, ends and sizes
+/// are in bytes.
 #[derive(Clone, Copy)]
 pub enum Check<'a> {
     Must(Fault, bool),

@@ -1,4 +1,4 @@
-use Rattle.std.proofs.Common.{◌∙◌, ◌≤◌, arith, get_or}
+use Rattle.std.proofs.Common.{◌∙◌, arith}
 use Rattle.gfx_rules.proofs.New.{breaks, passes, among_behind, above_more, behind}
 use Rattle.gfx_rules.proofs.ids.new_faults.Goals as goal
 

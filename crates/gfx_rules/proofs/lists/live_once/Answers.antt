@@ -2,7 +2,7 @@ use Rattle.std.proofs.Common.{◌∙◌, ◌∷◌, [], get_or, not, ap, arith}
 use Rattle.gfx_types.specs.declared.names.Kind.TheVariants as kind
 use Rattle.gfx_types.specs.declared.names.Fault.TheVariants.{NotLive}
 use Rattle.gfx_model.specs.Checks as words
-use Rattle.gfx_rules.proofs.New.{once_breaks, once_passes, among_behind, above_more, behind}
+use Rattle.gfx_rules.proofs.New.{once_breaks, once_passes, among_behind, above_more}
 use Rattle.gfx_rules.proofs.lists.live_once.Goals as goal
 
 pub returns-in-Some : goal.returns-in-Some

@@ -1,7 +1,6 @@
-use Rattle.std.proofs.Common.{◌∷◌, ◌++◌, [], refl}
+use Rattle.std.proofs.Common.{◌++◌, [], refl}
 use Rattle.gfx_types.specs.declared.names.Kind.TheVariants as kind
 use Rattle.gfx_model.specs.Table as table
-use Rattle.gfx_model.specs.Checks as words
 use Rattle.gfx_rules.proofs.Joined.{stops, goes_on, joins}
 use Rattle.gfx_rules.proofs.rows_buffers.free_command_buffers.Goals as goal
 

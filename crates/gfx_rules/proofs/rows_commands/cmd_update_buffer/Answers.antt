@@ -1,4 +1,4 @@
-use Rattle.std.proofs.Common.{◌∷◌, ◌++◌, ◌==◌, ◌&&◌, ◌||◌, ◌+◌, [], nat_le, length, refl}
+use Rattle.std.proofs.Common.{◌∷◌, ◌++◌, ◌&&◌, ◌+◌, [], nat_le, length, refl}
 use Rattle.gfx_types.specs.declared.names.Kind.TheVariants as kind
 use Rattle.gfx_model.specs.Table as table
 use Rattle.gfx_model.specs.Checks as words

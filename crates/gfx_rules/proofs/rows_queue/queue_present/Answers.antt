@@ -1,4 +1,4 @@
-use Rattle.std.proofs.Common.{◌≡◌, ◌∷◌, ◌++◌, ◌∙◌, ℕ, List, [], map, length, sym, ap, refl, append_assoc}
+use Rattle.std.proofs.Common.{◌≡◌, ◌∷◌, ◌++◌, ◌∙◌, ℕ, List, [], map, sym, ap, refl, append_assoc}
 use Rattle.gfx_types.specs.declared.names.Kind.TheVariants as kind
 use Rattle.gfx_types.specs.declared.lists.Present.{Present}
 use Rattle.gfx_model.specs.Events.Event.{QueuePresentKHR}

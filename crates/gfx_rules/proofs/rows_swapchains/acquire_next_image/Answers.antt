@@ -1,7 +1,6 @@
 use Rattle.std.proofs.Common.{◌∷◌, ◌++◌, ◌==◌, ◌||◌, [], nat_le, not, refl}
 use Rattle.gfx_types.specs.declared.names.Kind.TheVariants as kind
 use Rattle.gfx_model.specs.Table as table
-use Rattle.gfx_model.specs.Checks as words
 use Rattle.gfx_rules.proofs.Joined.{joins}
 use Rattle.gfx_rules.proofs.rows_swapchains.acquire_next_image.Goals as goal
 
