@@ -1,17 +1,16 @@
 -- Whether a device has its queue, told by whether the id was used.
-use Rattle.std.proofs.Common.{◌≡◌, ℕ, ◌==◌, Bool, true, false, not, ◌&&◌, List, [], ◌∷◌, Option, Some, None, is_some, refl, ap, sym, subst, ◌∙◌, arith, cond}
+use Rattle.std.proofs.Common.{◌≡◌, ℕ, ◌==◌, Bool, true, false, not, ◌&&◌, List, [], ◌∷◌, Option, Some, None, is_some, refl, subst, arith, cond}
 use Rattle.std.specs.Prelude.{find}
 use Rattle.std.proofs.Math.Logic.{∥∥₁_elim}
 use Rattle.std.proofs.Props.{props}
 use Rattle.std.proofs.lemmas.Bool.{and_parts}
 use Rattle.std.proofs.lemmas.Bool.Decides.{nat_tests}
-use Rattle.gfx_model.specs.Events.{Event}
 use Rattle.gfx_model.specs.Events.Event.{GetDeviceQueue}
 use Rattle.gfx_model.specs.Spelling.{id_of}
 use Rattle.gfx_model.specs.Steps.{Object}
 use Rattle.gfx_model.specs.Questions.{passes}
 use Rattle.gfx_model.specs.Views.{View, is_one, is_queue, queue_of}
-use Rattle.gfx_model.specs.Checks.{broken, first, unless, new_fault, room_fault, queue_fault, is_among}
+use Rattle.gfx_model.specs.Checks.{broken, new_fault, queue_fault, is_among}
 use Rattle.gfx_model.specs.Checks.Check.{the_queue}
 use Rattle.gfx_model.specs.Table.{place_of, row_of, checks_of}
 use Rattle.gfx_model.proofs.Covered.{unless_none, first_none}
@@ -22,11 +21,11 @@ use Rattle.gfx_tracker.specs.Taking.{IsNext}
 -- what is found passes the test
 pub find_passes : {X : Type 0} (p : X → Bool) (xs : List X) (x : X) → find p xs ≡ Some x → p x ≡ true
 find_passes p [] x e = absurd cc
-find_passes p (y ∷ ys) x e = by (p y) refl e
+find_passes p (y ∷ ys) x e = by (p y) refl e (find_passes p ys x)
   where
-    by : (t : Bool) → p y ≡ t → cond t (Some y) (find p ys) ≡ Some x → p x ≡ true
-    by true is e = subst (λ z. p z ≡ true) (let same : y ≡ x = cc in same) is
-    by false is e = find_passes p ys x e
+    by : (t : Bool) → p y ≡ t → cond t (Some y) (find p ys) ≡ Some x → (find p ys ≡ Some x → p x ≡ true) → p x ≡ true
+    by true is e rest = subst (λ z. p z ≡ true) (let same : y ≡ x = cc in same) is
+    by false is e rest = rest e
 
 -- an id that is new was not used
 pub new_unused : (v : View) (earlier : List ℕ) (x : ℕ) → new_fault v earlier x ≡ None → v.used x ≡ false

@@ -15,11 +15,11 @@ use Rattle.gfx_model.specs.Steps.Detail.{a_memory, an_image, a_swapchain, a_fenc
 use Rattle.gfx_model.specs.Steps.Change.{set_layout}
 use Rattle.gfx_model.specs.Steps.Step.{taken, creates, changes, signals, acquires}
 use Rattle.gfx_model.specs.Questions.{passes}
-use Rattle.gfx_model.specs.Views.{View, is_live, images_in, live_bytes, detail_bytes, object_count}
+use Rattle.gfx_model.specs.Views.{View, is_live, images_in, live_bytes, detail_bytes}
 use Rattle.gfx_model.specs.Checks.{broken, first_broken}
 use Rattle.gfx_model.specs.Checks.Check.{live, of, unsignalled, index_in, not_acquired, all_acquired}
 use Rattle.gfx_model.specs.Table.{checks_of, is_positive, to_signal, acquire_answer, value}
-use Rattle.gfx_model.specs.Effects.{effect_of, steps_of, signals_any}
+use Rattle.gfx_model.specs.Effects.{effect_of, signals_any}
 use Rattle.gfx_model.specs.After.{after}
 use Rattle.gfx_model.proofs.Covered.{unless_none}
 use Rattle.gfx_laws.specs.Lawful.{IsLawful, Passes, is_allowed, has_signal}

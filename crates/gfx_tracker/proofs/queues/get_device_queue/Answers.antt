@@ -1,6 +1,5 @@
-use Rattle.std.proofs.Common.{◌≡◌, ◌∷◌, [], Bool, true, false, if◌then◌else◌, refl, ap, subst, sym, ◌∙◌, OnOk}
+use Rattle.std.proofs.Common.{◌≡◌, ◌∷◌, [], Bool, if◌then◌else◌, ap, subst, sym, ◌∙◌, OnOk}
 use Rattle.gfx_model.specs.Events.Event.{GetDeviceQueue}
-use Rattle.gfx_model.specs.Steps.{Step}
 use Rattle.gfx_model.specs.Steps.Detail.{a_queue}
 use Rattle.gfx_model.specs.Steps.Step.{creates}
 use Rattle.gfx_model.specs.Effects.{effect_of}

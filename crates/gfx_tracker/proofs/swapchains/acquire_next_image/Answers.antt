@@ -1,4 +1,4 @@
-use Rattle.std.proofs.Common.{◌≡◌, ◌==◌, ◌∷◌, [], ◌++◌, Bool, true, false, if◌then◌else◌, refl, ap, subst, sym, ◌∙◌, arith}
+use Rattle.std.proofs.Common.{◌≡◌, ◌==◌, ◌∷◌, [], ◌++◌, Bool, true, false, if◌then◌else◌, ap, ◌∙◌, arith}
 use Rattle.std.specs.Prelude.{fold}
 use Rattle.std.specs.List.{AllByRecursion}
 use Rattle.std.proofs.lemmas.Bool.Decides.{nat_tests}
@@ -6,10 +6,8 @@ use Rattle.gfx_types.specs.declared.names.Kind.TheVariants as kind
 use Rattle.gfx_model.specs.Events.Event.{AcquireNextImageKHR}
 use Rattle.gfx_model.specs.Spelling.{id_of}
 use Rattle.gfx_model.specs.Questions.{passes}
-use Rattle.gfx_model.specs.Steps.{Object}
 use Rattle.gfx_model.specs.Steps.Step.{acquires}
-use Rattle.gfx_model.specs.Checks.{Check}
-use Rattle.gfx_model.specs.Table.{place_of, row_of, checks_of, to_signal, value, acquire_answer}
+use Rattle.gfx_model.specs.Table.{place_of, row_of, checks_of, to_signal}
 use Rattle.gfx_model.specs.Effects.{effect_of, signals_any}
 use Rattle.gfx_model.specs.After.{after}
 use Rattle.gfx_laws.specs.Lawful.{Passes, has_signal}
