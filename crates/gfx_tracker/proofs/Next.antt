@@ -2,6 +2,9 @@
 use Rattle.std.proofs.Common.{◌≡◌, if◌then◌else◌, ℕ, ◌==◌, ◌<◌, ◌≤◌, ◌+◌, ◌^◌, Bool, true, false, ◌&&◌, List, [], ◌∷◌, ◌++◌, Option, Some, None, is_some, refl, ap, sym, subst, ◌∙◌, arith}
 use Rattle.std.specs.Prelude.{fold, nat_le}
 use Rattle.std.specs.List.{AllByRecursion}
+use Rattle.std.specs.Option.{option_map_or}
+use Rattle.gfx_types.specs.declared.op.Place.{Place}
+use Rattle.gfx_types.specs.declared.op.Place.TheVariants as place
 use Rattle.std.proofs.Math.Logic.{∥∥₁_elim}
 use Rattle.std.proofs.Props.{props}
 use Rattle.std.proofs.lemmas.Bool.{and_parts, ltb-true}
@@ -12,14 +15,14 @@ use Rattle.gfx_types.specs.declared.names.Kind.TheVariants as kind
 use Rattle.gfx_model.specs.Events.{Event}
 use Rattle.gfx_model.specs.Steps.{Step, Object, Detail, kind_of, kind_number}
 use Rattle.gfx_model.specs.Steps.Detail.{a_memory, an_image, a_swapchain, a_fence, a_semaphore}
-use Rattle.gfx_model.specs.Steps.Change.{set_layout}
+use Rattle.gfx_model.specs.Steps.Change.{set_layout, put}
 use Rattle.gfx_model.specs.Steps.Step.{taken, creates, changes, signals, acquires}
 use Rattle.gfx_model.specs.Questions.{passes}
 use Rattle.gfx_model.specs.Views.{View, is_live, images_in, live_bytes, detail_bytes}
 use Rattle.gfx_model.specs.Checks.{broken, first_broken}
 use Rattle.gfx_model.specs.Checks.Check.{live, of, unsignalled, index_in, not_acquired, all_acquired}
 use Rattle.gfx_model.specs.Table.{checks_of, is_positive, to_signal, acquire_answer, value}
-use Rattle.gfx_model.specs.Effects.{effect_of, signals_any}
+use Rattle.gfx_model.specs.Effects.{effect_of, signals_any, image_bytes_put}
 use Rattle.gfx_model.specs.After.{after}
 use Rattle.gfx_model.proofs.Covered.{unless_none}
 use Rattle.gfx_laws.specs.Lawful.{IsLawful, Passes, is_allowed, has_signal}
@@ -180,3 +183,33 @@ signals_live w id x = by (id == 0)
 pub acquires_live : (v w : View) (swapchain index x : ℕ) → w ≡ after v (acquires swapchain index) → w.live x ≡ v.live x
 unfolding after
 acquires_live v w swapchain index x is = ap (λ (v : View). v.live x) is
+
+-- ---- changes of bytes, which no answer tells
+
+quiet_put : (v : View) (at : Place) (offset : ℕ) (bytes : List ℕ) → after v (changes (put at offset bytes)) ≡ after v taken
+unfolding after
+quiet_put v at offset bytes = refl
+
+-- a put after a step tells nothing
+put_after : (v : View) (s : Step) (at : Place) (offset : ℕ) (bytes : List ℕ) → after (after v s) (changes (put at offset bytes)) ≡ after v s
+unfolding after
+put_after v (changes (set_layout i l)) at offset bytes = refl
+put_after v (changes _) at offset bytes = refl
+put_after v _ at offset bytes = refl
+
+pub after_put : (v : View) (e : Event) (at : Place) (offset : ℕ) (bytes : List ℕ) → effect_of v e ≡ changes (put at offset bytes) ∷ [] → after v taken ≡ after_event v e
+after_put v e at offset bytes is = sym (quiet_put v at offset bytes) ∙ after_one v e (changes (put at offset bytes)) is
+
+-- the bytes of an image tell nothing
+image_put : (v : View) (s : Step) (d : Detail) (image : ℕ) (bytes : List ℕ) → fold after (after v s) (image_bytes_put d image bytes) ≡ after v s
+image_put v s (an_image format width height usage (Some index)) image bytes = put_after v s (place.Image image) 0 bytes
+image_put v s (an_image format width height usage None) image bytes = refl
+image_put v s _ image bytes = refl
+
+pub after_image : (v : View) (e : Event) (image layout : ℕ) (bytes : List ℕ) →
+    effect_of v e ≡ changes (set_layout image layout) ∷ option_map_or (λ o. image_bytes_put o.detail image bytes) (v.live image) [] → after v (changes (set_layout image layout)) ≡ after_event v e
+after_image v e image layout bytes is = sym (by (v.live image)) ∙ after_steps v e (changes (set_layout image layout)) _ is
+  where
+    by : (o : Option Object) → fold after (after v (changes (set_layout image layout))) (option_map_or (λ o. image_bytes_put o.detail image bytes) o []) ≡ after v (changes (set_layout image layout))
+    by None = refl
+    by (Some o) = image_put v (changes (set_layout image layout)) o.detail image bytes

@@ -4,6 +4,7 @@
 mod creations;
 mod ends;
 mod markers;
+mod metadata;
 mod queues;
 mod registry;
 mod resources;
