@@ -3,3 +3,5 @@ pub mod Registered
 pub mod Gathered
 pub mod Next
 pub mod Fetched
+pub mod Seeking
+pub mod Ids
