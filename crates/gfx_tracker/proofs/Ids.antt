@@ -1,18 +1,18 @@
 -- The live ids, each once, hold all buffers of which something is kept.
-use Rattle.std.proofs.Common.{◌≡◌, ℕ, ◌==◌, ◌&&◌, ◌||◌, Bool, true, false, not, List, [], ◌∷◌, T, Option, Some, None, is_some, refl, ap, sym, ◌∙◌, arith}
+use Rattle.std.proofs.Common.{◌≡◌, ℕ, Bool, true, false, List, [], ◌∷◌, T, Option, Some, None, is_some, refl, ap, sym, ◌∙◌, arith}
 use Rattle.std.specs.Prelude.{option_map, map as each}
 use Rattle.std.specs.Ordering.{nat_cmp}
 use Rattle.std.specs.FinMap as map
-use Rattle.std.specs.FinMap.{FinMap, entries, entries_sorted, get-entries, is_sorted}
+use Rattle.std.specs.FinMap.{entries, entries_sorted, get-entries, is_sorted}
 use Rattle.std.specs.FinMap.Entries.{below_all}
 use Rattle.std.proofs.lemmas.Bool.Decides.{nat_tests}
-use Rattle.gfx_model.specs.Questions.{Buffer, is_kept}
+use Rattle.gfx_model.specs.Questions.{Buffer}
 use Rattle.gfx_model.specs.Checks.{is_among, is_distinct}
 use Rattle.gfx_objects.specs.declared.object.Object.{Object}
 use Rattle.gfx_objects.specs.Object.{made}
 use Rattle.gfx_objects.specs.Objects.{Kept, answers}
 use Rattle.gfx_commands.specs.Recordings.{HoldsKept}
-use Rattle.gfx_tracker.specs.Gathered.{is_new, IsPlain}
+use Rattle.gfx_tracker.specs.Gathered.{IsPlain}
 use Rattle.gfx_tracker.proofs.Gathered.{new_not_kept}
 
 not_above : (es : List (ℕ × Object)) (x : ℕ) → T (below_all nat_cmp x es) → is_among x (each (λ e. e.0) es) ≡ false

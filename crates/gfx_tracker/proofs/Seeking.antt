@@ -1,6 +1,6 @@
 -- Going over the live ids of a kind, in search of objects.
-use Rattle.std.proofs.Common.{◌≡◌, ℕ, zero, suc, ◌+◌, ◌-◌, ◌<◌, ◌≤◌, ◌≢◌, ◌==◌, ◌&&◌, Bool, true, false, List, [], ◌∷◌, ◌++◌, length, nat_lt, Option, Some, None, is_some, Result, Ok, Err, cond, refl, ap, sym, subst, ◌∙◌, arith, append_assoc}
-use Rattle.std.specs.Prelude.{option_map, option_and_then, find, filter, flat_map, slice_get}
+use Rattle.std.proofs.Common.{◌≡◌, ℕ, suc, ◌+◌, ◌-◌, ◌<◌, ◌≢◌, ◌==◌, Bool, true, false, List, [], ◌∷◌, ◌++◌, Option, Some, None, is_some, Result, Ok, Err, cond, refl, ap, sym, ◌∙◌, arith}
+use Rattle.std.specs.Prelude.{option_and_then, find, filter, flat_map, slice_get}
 use Rattle.std.specs.List.{list_any, range_with_len}
 use Rattle.std.specs.Result.{result_ok, IfOk, IfErr}
 use Rattle.std.specs.FinMap as map
@@ -10,7 +10,7 @@ use Rattle.gfx_table.specs.Values.{get-with_rows}
 use Rattle.gfx_table.specs.Rows.{ids, ids_above, ids-with_rows, above-zero, above-step, above-end}
 use Rattle.gfx_model.specs.Steps.{Object as Made, kind_of, kind_number}
 use Rattle.gfx_model.specs.Questions.{passes}
-use Rattle.gfx_model.specs.Views.{View, is_live, is_one}
+use Rattle.gfx_model.specs.Views.{is_live, is_one}
 use Rattle.gfx_objects.specs.declared.object.Object.{Object}
 use Rattle.gfx_objects.specs.Objects.{Kept, answers, next_of, IsSound, mark, of_kind}
 use Rattle.gfx_objects.proofs.Asked.{kind_answered, next_answered}
@@ -54,9 +54,6 @@ any_found p (x ∷ xs) = by (p x) refl (any_found p xs)
 -- ---- the ids of a kind
 
 module _ (k : Kept) (kind : Kind) (s : Sought) where
-  test : ℕ → Bool
-  test = is_one (answers k) (is_sought s)
-
   -- those that are sought, above an id
   abbrev pub sought_above : ℕ → List ℕ
   sought_above after = filter (is_one (answers k) (is_sought s)) (ids_above after (of_kind kind k.rows))
@@ -111,6 +108,3 @@ pub flat_step : (f : ℕ → List ℕ) (n index : ℕ) → index < n → flat_ma
 flat_step f n index below =
     let one_less : n - index ≡ suc (n - (index + 1)) = omega arith in
     ap (λ m. flat_map f (range_with_len index m)) one_less
-
-pub flat_end : (f : ℕ → List ℕ) (n left : ℕ) → slice_get (flat_map f (range_with_len n (n - n))) left ≡ None
-flat_end f n left = let nothing : n - n ≡ 0 = omega arith in ap (λ m. slice_get (flat_map f (range_with_len n m)) left) nothing

@@ -149,10 +149,7 @@ pub(crate) fn layout_in(detail: &Detail) -> u32
 pub(crate) fn is_queue(detail: &Detail) -> bool
     ensures { result ≡ view.is_queue (object.detail_of detail.now) }
 {
-    match detail {
-        Detail::Queue => true,
-        _ => false,
-    }
+    matches!(detail, Detail::Queue)
 }
 
 /// Whether it is a swapchain on this surface.
@@ -171,7 +168,8 @@ pub(crate) fn has_index(detail: &Detail, wanted: u32) -> bool
 {
     match detail {
         Detail::Image {
-            index: Some(index), ..
+            index: Some(index),
+            ..
         } => *index == wanted,
         _ => false,
     }
