@@ -3,3 +3,4 @@ pub mod Registered
 pub mod Gathered
 pub mod Next
 pub mod Fetched
+pub mod Unmoved

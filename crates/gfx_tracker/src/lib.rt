@@ -2,6 +2,7 @@
 #![tactic(auto)]
 
 mod creations;
+mod each;
 mod ends;
 mod markers;
 mod metadata;
