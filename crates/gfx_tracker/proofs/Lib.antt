@@ -4,3 +4,4 @@ pub mod Gathered
 pub mod Next
 pub mod Fetched
 pub mod Unmoved
+pub mod Presented

@@ -4,8 +4,10 @@
 mod creations;
 mod each;
 mod ends;
+mod fences;
 mod markers;
 mod metadata;
+mod presents;
 mod queues;
 mod registry;
 mod resources;
