@@ -6,3 +6,4 @@ pub mod Recording
 pub mod Recordings
 pub mod Counted
 pub mod Layouts
+pub mod Distinct

@@ -36,8 +36,8 @@ fn is_bound_to(detail: &Detail, memory: u64) -> bool
         Detail::Buffer {
             bound: Some(bound),
             ..
-        } => bound.memory == memory,
-        Detail::Image {
+        }
+        | Detail::Image {
             bound: Some(bound),
             ..
         } => bound.memory == memory,
