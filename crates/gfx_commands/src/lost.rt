@@ -2,7 +2,7 @@
 ghost use Rattle.std.specs.Prelude.{◌≡◌};
 ghost use Rattle.gfx_model.specs.Questions.{is_owned, rests_on, passes, is_in_pool};
 ghost use Rattle.gfx_model.specs.After.{is_gone, is_lost};
-ghost use Rattle.gfx_objects.specs.Object.{detail_of, binding_of, bound_of};
+ghost use Rattle.gfx_objects.specs.Object.{detail_of, bound_of};
 ghost use Rattle.gfx_objects.specs.Objects.{answers};
 
 use gfx_objects::{Detail, Objects};
