@@ -1,13 +1,12 @@
--- The live ids, each once, hold all buffers of which something is kept.
-use Rattle.std.proofs.Common.{◌≡◌, ℕ, Bool, true, false, List, [], ◌∷◌, T, Option, Some, None, is_some, refl, ap, sym, ◌∙◌, arith}
+-- The live ids hold all buffers of which something is kept.
+use Rattle.std.proofs.Common.{◌≡◌, ℕ, Bool, true, false, List, [], ◌∷◌, Option, Some, None, is_some, refl, ap, sym, ◌∙◌, arith}
 use Rattle.std.specs.Prelude.{option_map, map as each}
 use Rattle.std.specs.Ordering.{nat_cmp}
 use Rattle.std.specs.FinMap as map
-use Rattle.std.specs.FinMap.{entries, entries_sorted, get-entries, is_sorted}
-use Rattle.std.specs.FinMap.Entries.{below_all}
+use Rattle.std.specs.FinMap.{entries, get-entries}
 use Rattle.std.proofs.lemmas.Bool.Decides.{nat_tests}
 use Rattle.gfx_model.specs.Questions.{Buffer}
-use Rattle.gfx_model.specs.Checks.{is_among, is_distinct}
+use Rattle.gfx_model.specs.Checks.{is_among}
 use Rattle.gfx_objects.specs.declared.object.Object.{Object}
 use Rattle.gfx_objects.specs.Object.{made}
 use Rattle.gfx_objects.specs.Objects.{Kept, answers}
@@ -15,29 +14,9 @@ use Rattle.gfx_commands.specs.Recordings.{HoldsKept}
 use Rattle.gfx_tracker.specs.Gathered.{IsPlain}
 use Rattle.gfx_tracker.proofs.Gathered.{new_not_kept}
 
-not_above : (es : List (ℕ × Object)) (x : ℕ) → T (below_all nat_cmp x es) → is_among x (each (λ e. e.0) es) ≡ false
-not_above [] x below = refl
-not_above (e ∷ es) x below =
-    let rest : T (below_all nat_cmp x es) = grind (arith, nat_tests) in
-    let none = not_above es x rest in
-    grind (arith, nat_tests, none)
-
-distinct : (es : List (ℕ × Object)) → T (is_sorted nat_cmp es) → is_distinct (each (λ e. e.0) es) ≡ true
-distinct [] sorted = refl
-distinct (e ∷ es) sorted =
-    let below : T (below_all nat_cmp e.0 es) = grind arith in
-    let tail : T (is_sorted nat_cmp es) = grind arith in
-    let none = not_above es e.0 below in
-    let rest = distinct es tail in
-    grind (arith, none, rest)
-
 among : (es : List (ℕ × Object)) (x : ℕ) → is_some (map.find nat_cmp x es) ≡ true → is_among x (each (λ e. e.0) es) ≡ true
 among [] x some = some
 among (e ∷ es) x some = let rest = among es x in grind (arith, nat_tests, some, rest)
-
-pub ids_distinct : (k : Kept) → is_distinct (answers k).ids ≡ true
-unfolding answers
-ids_distinct k = distinct (entries k.rows) (entries_sorted k.rows)
 
 some_made : (o : Option Object) → is_some (option_map made o) ≡ is_some o
 some_made None = refl

@@ -5,3 +5,5 @@ pub mod Next
 pub mod Fetched
 pub mod Seeking
 pub mod Ids
+pub mod Unmoved
+pub mod Presented

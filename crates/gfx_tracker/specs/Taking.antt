@@ -2,12 +2,15 @@
 use Rattle.std.specs.Prelude.{◌≡◌, ◌<◌, ◌≤◌, ◌+◌, ◌^◌, ℕ, true, false, [], None, is_some, fold}
 use Rattle.gfx_model.specs.Events.{Event}
 use Rattle.gfx_model.specs.Steps.{Detail}
-use Rattle.gfx_model.specs.Views.{View, object_count, live_bytes, detail_bytes}
+use Rattle.gfx_types.specs.declared.names.Kind.TheVariants as kind
+use Rattle.gfx_types.specs.declared.lists.Present.{Present}
+use Rattle.gfx_model.specs.Questions.{passes}
+use Rattle.gfx_model.specs.Views.{View, object_count, live_bytes, detail_bytes, is_live, images_in}
 use Rattle.gfx_model.specs.Checks.{first_broken}
 use Rattle.gfx_model.specs.Table.{checks_of}
 use Rattle.gfx_model.specs.Effects.{steps_of}
 use Rattle.gfx_model.specs.After.{after}
-use Rattle.gfx_laws.specs.Lawful.{IsLawful}
+use Rattle.gfx_laws.specs.Lawful.{IsLawful, has_signal}
 use Rattle.gfx_objects.specs.Object.{is_within}
 
 -- the answers after an event
@@ -27,3 +30,12 @@ pub record MayCreate (v : View) (id : ℕ) (d : Detail) : Type 0 where
   pub within : is_within d ≡ true
   pub room : object_count v < 65536
   pub bytes : live_bytes v + detail_bytes d ≤ 2 ^ 28
+
+-- a live fence or semaphore
+abbrev pub HasSignal : View → ℕ → Type 0
+HasSignal v x = passes (λ o. has_signal o.detail) (v.live x) ≡ true
+
+-- an image of a live swapchain
+pub record HasIndex (v : View) (p : Present) : Type 0 where
+  pub live : is_live v kind.Swapchain p.swapchain ≡ true
+  pub below : p.index < images_in v p.swapchain

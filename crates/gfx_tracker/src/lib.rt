@@ -4,9 +4,12 @@
 mod asked;
 mod creations;
 mod details;
+mod each;
 mod ends;
+mod fences;
 mod markers;
 mod metadata;
+mod presents;
 mod queues;
 mod registry;
 mod resources;
