@@ -4,3 +4,6 @@ pub mod Gathered
 pub mod Next
 pub mod Fetched
 pub mod Unmoved
+pub mod Recorded
+pub mod Freed
+pub mod Allocated

@@ -1,6 +1,7 @@
 //! The tracker: what stands after a capture's effects, and which effect may follow.
 #![tactic(auto)]
 
+mod buffers;
 mod creations;
 mod each;
 mod ends;
