@@ -7,3 +7,4 @@ pub mod Unmoved
 pub mod Recorded
 pub mod Freed
 pub mod Allocated
+pub mod ReadItems

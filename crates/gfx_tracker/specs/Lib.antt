@@ -3,3 +3,4 @@ pub mod Registry
 pub mod Gathered
 pub mod State
 pub mod Taking
+pub mod Items

@@ -2,6 +2,7 @@
 #![tactic(auto)]
 
 mod buffers;
+mod commands;
 mod creations;
 mod each;
 mod ends;
@@ -10,6 +11,7 @@ mod metadata;
 mod queues;
 mod registry;
 mod resources;
+mod spelled;
 mod state;
 mod swapchains;
 mod waits;
