@@ -99,6 +99,11 @@ bad_fields : (m kind id t : ℕ) (behind fields : List ℕ) → read_number w64 
 unfolding said
 bad_fields m kind id t behind fields thread event = rw (thread, event) refl
 
+-- where one is made of the other, it is there with it
+pub there_with : {X Y : Type 0} (from : Option X) (to : Option Y) (made : X → Y) → ((x : X) → from ≡ Some x → to ≡ Some (made x)) → from ≢ None → to ≢ None
+there_with None to made into some none = some refl
+there_with (Some x) to made into some none = let is : to ≡ Some (made x) = into x refl in cc
+
 -- ---- calls
 
 pub known_call : (m : ℕ) (bytes behind : List ℕ) (id : ℕ) → read_number w32 bytes ≡ Some (id, behind) → (nat_le 1 id && nat_le id 48) ≡ true → payload_fault 4 bytes ≡ BadParams

@@ -1,5 +1,5 @@
 -- What the payload of a block says.
-use Rattle.std.specs.Prelude.{◌≡◌, ℕ, List, Option, Some, None, Result, Ok, Err, ⊤}
+use Rattle.std.specs.Prelude.{◌≡◌, ◌≢◌, ℕ, List, Option, Some, None, Result, Ok, Err}
 use Rattle.gfx_types.specs.declared.effect.Block.{Block}
 use Rattle.gfx_types.specs.declared.effect.Block.TheVariants as block
 use Rattle.gfx_model.specs.Events.{Event, event_of}
@@ -15,11 +15,12 @@ abbrev pub content_of : Block → Content
 content_of (block.Effect thread of_block) = effect thread (event_of of_block)
 content_of block.Skip = skipped
 
--- the payload of this type says what the answer is, or it says nothing, for the answered fault
+-- the payload of this type says what the answer is, or it says nothing, for the answered fault; memory is wanted only
+-- for what a payload says
 abbrev pub SaysOrFails : Result Block BlockFault → (kind : ℕ) (payload : List ℕ) → Option Content → Type 0
 SaysOrFails (Ok found) kind payload said = said ≡ Some (content_of found)
 SaysOrFails (Err (Bad fault)) kind payload said = (said ≡ None) × (fault ≡ payload_fault kind payload)
-SaysOrFails (Err WantMemory) kind payload said = ⊤
+SaysOrFails (Err WantMemory) kind payload said = said ≢ None
 
 -- the same of a block in minor version m
 abbrev pub Says : Result Block BlockFault → (m kind : ℕ) → List ℕ → Type 0

@@ -7,3 +7,4 @@ pub mod Recordings
 pub mod Counted
 pub mod Layouts
 pub mod Runnable
+pub mod Distinct

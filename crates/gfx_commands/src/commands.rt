@@ -1,5 +1,5 @@
 //! The commands of a buffer, and what is kept beside them so that no byte is read again.
-ghost use Rattle.std.specs.Prelude.{flat_map, ◌≡◌, ◌+◌, ◌<◌, ◌^◌, ◌++◌, ◌∷◌, [], length, sum_by, slice_get, take, OnOk, OnErr, IfSome};
+ghost use Rattle.std.specs.Prelude.{flat_map, ◌≡◌, ◌+◌, ◌<◌, ◌^◌, ◌++◌, ◌∷◌, [], length, slice_get, take, OnOk, OnErr, IfSome};
 ghost use Rattle.std.specs.Option.{option_copied};
 ghost use Rattle.std.specs.List.{list_any, AllByRecursion};
 ghost use Rattle.gfx_model.specs.Events.{event_of_call};

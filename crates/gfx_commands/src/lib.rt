@@ -12,3 +12,6 @@ mod uses;
 pub use recorded::Recorded;
 pub use recording::CbState;
 pub use recordings::{Recordings, Totals};
+
+#[cfg(test)]
+mod tests;

@@ -2,7 +2,7 @@
 ghost use Rattle.std.specs.Prelude.{◌≡◌};
 ghost use Rattle.gfx_model.specs.Questions.{is_owned, rests_on, passes, is_in_pool};
 ghost use Rattle.gfx_model.specs.After.{is_gone, is_lost};
-ghost use Rattle.gfx_objects.specs.Object.{detail_of, binding_of, bound_of};
+ghost use Rattle.gfx_objects.specs.Object.{detail_of, bound_of};
 ghost use Rattle.gfx_objects.specs.Objects.{answers};
 
 use gfx_objects::{Detail, Objects};
@@ -36,8 +36,8 @@ fn is_bound_to(detail: &Detail, memory: u64) -> bool
         Detail::Buffer {
             bound: Some(bound),
             ..
-        } => bound.memory == memory,
-        Detail::Image {
+        }
+        | Detail::Image {
             bound: Some(bound),
             ..
         } => bound.memory == memory,

@@ -1,6 +1,6 @@
 //! What is recorded in one command buffer.
 ghost use Rattle.std.specs.Prelude.{◌≡◌, [], true};
-ghost use Rattle.gfx_model.specs.Questions.{State, is_kept, is_once, invalidated};
+ghost use Rattle.gfx_model.specs.Questions.{is_kept, is_once, invalidated};
 ghost use Rattle.gfx_model.specs.Views.{commands_in, bytes_in};
 ghost use Rattle.gfx_commands.specs.Recording.{state_of, buffer_of};
 

@@ -11,4 +11,6 @@ pub use op::{DeviceOp, Handle};
 pub use state::StateBytes;
 
 #[cfg(test)]
+mod plain_tests;
+#[cfg(test)]
 mod tests;

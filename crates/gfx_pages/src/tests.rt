@@ -17,6 +17,22 @@ fn fills(alloc: Global, bytes: &Bytes) -> Result<Vec<(u64, u64)>, Fail> {
     Ok(found)
 }
 
+// The same of a plain list: from the first to the last byte of each page that isn't zero.
+fn plain_fills(alloc: Global, plain: &[u8]) -> Result<Vec<(u64, u64)>, Fail> {
+    let mut found = Vec::new(alloc);
+    let mut at = 0u64;
+    for page in plain.chunks(65_536) {
+        let first = page.iter().position(|byte| *byte != 0);
+        let last = page.iter().rposition(|byte| *byte != 0);
+        if let (Some(first), Some(last)) = (first, last) {
+            let length = (last.saturating_sub(first) as u64).saturating_add(1);
+            found.push((at.saturating_add(first as u64), length))?;
+        }
+        at = at.saturating_add(65_536);
+    }
+    Ok(found)
+}
+
 #[test]
 fn fills_end_with_their_pages(rt: HostRuntime) -> Result<(), Fail> {
     let alloc = rt.alloc();
@@ -165,6 +181,11 @@ impl Pair {
         self.bytes.read_into(0, &mut read);
         assert!(rt;
             read == self.plain,
+            "{call:?} to {to} from {from} of {count}"
+        );
+        assert_eq!(rt;
+            fills(alloc, &self.bytes)?,
+            plain_fills(alloc, &self.plain)?,
             "{call:?} to {to} from {from} of {count}"
         );
         Ok(())

@@ -1,15 +1,15 @@
 -- What reading answers, by the readers of the grammar.
-use Rattle.std.specs.Prelude.{◌≡◌, List, ℕ, Option, Some, None, Result, Ok, Err, ⊤}
+use Rattle.std.specs.Prelude.{◌≡◌, ◌≢◌, List, ℕ, Option, Some, None, Result, Ok, Err}
 use Rattle.gfx_model.specs.Events.{Event}
 use Rattle.gfx_grammar.specs.Reading.{Reader}
 use Rattle.gfx_grammar.specs.Rows.{exactly}
 use Rattle.gfx_params.specs.declared.fault.ParamFault.{ParamFault}
 use Rattle.gfx_params.specs.declared.fault.ParamFault.TheVariants.{BadParams, WantMemory}
 
--- bad fields are exactly what the grammar does not read
+-- bad fields are exactly what the grammar does not read; memory is wanted only for what it reads
 abbrev pub Fails : {Y : Type 0} → ParamFault → Option Y → Type 0
 Fails BadParams read = read ≡ None
-Fails WantMemory read = ⊤
+Fails WantMemory read = read ≢ None
 
 -- the answer is what the grammar reads
 abbrev pub Gives : {X Y : Type 0} → (X → Y) → Result X ParamFault → Option Y → Type 0

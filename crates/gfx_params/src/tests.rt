@@ -140,7 +140,7 @@ fn other_bytes_are_bad_parameters(rt: HostRuntime) {
     let crowd = b"\x04\0\0\0\0\0\0\0\xff\xff\xff\xff\x08\0\0\0\0\0\0\0";
     for (minor, id, bytes) in [
         (1, 1, &INSTANCE[..11]),
-        (1, 6, INSTANCE),
+        (1, 6, &INSTANCE[..9]),
         (2, 28, &UPDATE[..35]),
         (1, 29, &COPY[..75]),
         (1, 36, crowd.as_slice()),

@@ -8,3 +8,4 @@ pub mod Recorded
 pub mod Freed
 pub mod Allocated
 pub mod ReadItems
+pub mod Presented

@@ -168,7 +168,7 @@ answer_index v swapchain index answer other all = by (answer == 1) other all
     by true e all = absurd cc
     by false e all = index_below v swapchain index all.0
 
-fold-append : {X Y : Type 0} (f : X → Y → X) (x : X) (ys zs : List Y) → fold f x (ys ++ zs) ≡ fold f (fold f x ys) zs
+pub fold-append : {X Y : Type 0} (f : X → Y → X) (x : X) (ys zs : List Y) → fold f x (ys ++ zs) ≡ fold f (fold f x ys) zs
 fold-append f x [] zs = refl
 fold-append f x (y ∷ ys) zs = fold-append f (f x y) ys zs
 

@@ -1,11 +1,11 @@
 -- What steps of several items leave as it was.
-use Rattle.std.proofs.Common.{◌≡◌, ℕ, ◌==◌, true, List, [], ◌∷◌, ◌++◌, map, refl, ap, ◌∙◌}
-use Rattle.std.specs.Prelude.{fold, take}
+use Rattle.std.proofs.Common.{◌≡◌, ℕ, ◌==◌, true, List, [], ◌∷◌, map, refl, ap, ◌∙◌}
+use Rattle.std.specs.Prelude.{fold}
 use Rattle.std.specs.Option.{option_map_or}
 use Rattle.gfx_types.specs.declared.names.Kind.TheVariants as kind
 use Rattle.gfx_types.specs.declared.lists.Present.{Present}
-use Rattle.gfx_model.specs.Steps.{Step, Object, kind_of, kind_number}
-use Rattle.gfx_model.specs.Steps.Step.{unsignals, gives_back}
+use Rattle.gfx_model.specs.Steps.{kind_of, kind_number}
+use Rattle.gfx_model.specs.Steps.Step.{taken, unsignals, gives_back}
 use Rattle.gfx_model.specs.Questions.{passes}
 use Rattle.gfx_model.specs.Views.{View, is_live, images_in, detail_images}
 use Rattle.gfx_model.specs.After.{after}
@@ -36,3 +36,33 @@ is_live_along v w x same has = ap (λ o. passes (λ o. kind_number (kind_of o.de
 
 pub images_along : (v w : View) (x : ℕ) → w.live x ≡ v.live x → images_in w x ≡ images_in v x
 images_along v w x same = ap (λ o. option_map_or (λ o. detail_images o.detail) o 0) same
+
+unsignal_frame : (v : View) (id : ℕ) → (after v (unsignals id)).next_frame ≡ v.next_frame
+unfolding after
+unsignal_frame v id = refl
+
+pub unsignals_frame : (v : View) (ids : List ℕ) → (fold after v (map unsignals ids)).next_frame ≡ v.next_frame
+unsignals_frame v [] = refl
+unsignals_frame v (id ∷ ids) = unsignals_frame (after v (unsignals id)) ids ∙ unsignal_frame v id
+
+give_back_frame : (v : View) (swapchain index : ℕ) → (after v (gives_back swapchain index)).next_frame ≡ v.next_frame
+unfolding after
+give_back_frame v swapchain index = refl
+
+pub gives_back_frame : (v : View) (ps : List Present) → (fold after v (map (λ p. gives_back p.swapchain p.index) ps)).next_frame ≡ v.next_frame
+gives_back_frame v [] = refl
+gives_back_frame v (p ∷ ps) = gives_back_frame (after v (gives_back p.swapchain p.index)) ps ∙ give_back_frame v p.swapchain p.index
+
+taken_live : (v : View) (x : ℕ) → (after v taken).live x ≡ v.live x
+unfolding after
+taken_live v x = refl
+
+taken_frame : (v : View) → (after v taken).next_frame ≡ v.next_frame
+unfolding after
+taken_frame v = refl
+
+pub live_taken : (v w : View) (x : ℕ) → w ≡ after v taken → w.live x ≡ v.live x
+live_taken v w x is = ap (λ (w : View). w.live x) is ∙ taken_live v x
+
+pub frame_taken : (v w : View) → w ≡ after v taken → w.next_frame ≡ v.next_frame
+frame_taken v w is = ap (λ (w : View). w.next_frame) is ∙ taken_frame v

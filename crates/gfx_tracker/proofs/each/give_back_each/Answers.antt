@@ -1,4 +1,4 @@
-use Rattle.std.proofs.Common.{◌≡◌, ◌<◌, ap, subst, sym, ◌∙◌, take, map, get_or}
+use Rattle.std.proofs.Common.{◌<◌, ap, subst, sym, ◌∙◌, take, get_or}
 use Rattle.gfx_model.specs.Views.{View}
 use Rattle.gfx_ops.proofs.Appending.{all_at}
 use Rattle.gfx_tracker.specs.State.{state_answers}

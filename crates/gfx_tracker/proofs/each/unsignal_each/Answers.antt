@@ -1,5 +1,4 @@
-use Rattle.std.proofs.Common.{◌≡◌, ap, ◌∙◌, take, map, get_or}
-use Rattle.gfx_model.specs.Steps.Step.{unsignals}
+use Rattle.std.proofs.Common.{ap, ◌∙◌, take, get_or}
 use Rattle.gfx_model.specs.Views.{View}
 use Rattle.gfx_ops.proofs.Appending.{all_at}
 use Rattle.gfx_tracker.specs.State.{state_answers}

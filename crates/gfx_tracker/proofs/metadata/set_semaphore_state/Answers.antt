@@ -1,4 +1,4 @@
-use Rattle.std.proofs.Common.{◌≡◌, ◌∷◌, [], ◌==◌, Bool, true, false, if◌then◌else◌, refl, ap, ◌∙◌, arith}
+use Rattle.std.proofs.Common.{◌≡◌, ◌∷◌, [], ◌==◌, Bool, true, false, if◌then◌else◌, ap, ◌∙◌, arith}
 use Rattle.std.proofs.lemmas.Bool.Decides.{nat_tests}
 use Rattle.gfx_model.specs.Events.Event.{SetSemaphoreState}
 use Rattle.gfx_model.specs.Steps.Step.{signals, unsignals}
