@@ -6,4 +6,8 @@ pub mod Fetched
 pub mod Seeking
 pub mod Ids
 pub mod Unmoved
+pub mod Recorded
+pub mod Freed
+pub mod Allocated
+pub mod ReadItems
 pub mod Presented

@@ -1,5 +1,5 @@
 -- What is known of an effect that may be taken: what its steps need.
-use Rattle.std.proofs.Common.{◌≡◌, if◌then◌else◌, ℕ, ◌==◌, ◌<◌, ◌≤◌, ◌+◌, ◌^◌, Bool, true, false, ◌&&◌, List, [], ◌∷◌, ◌++◌, Option, Some, None, is_some, refl, ap, sym, subst, ◌∙◌, arith}
+use Rattle.std.proofs.Common.{◌≡◌, if◌then◌else◌, ℕ, ◌==◌, ◌<◌, ◌≤◌, ◌+◌, ◌^◌, Bool, true, false, ◌&&◌, List, [], ◌∷◌, ◌++◌, length, Option, Some, None, is_some, refl, ap, sym, subst, ◌∙◌, arith}
 use Rattle.std.specs.Prelude.{fold, nat_le}
 use Rattle.std.specs.List.{AllByRecursion}
 use Rattle.std.specs.Option.{option_map_or}
@@ -47,6 +47,11 @@ after_steps v e s ss is = ap (λ w. fold after w ss) (sym (absorbed v s)) ∙ ap
 pub after_one : (v : View) (e : Event) (s : Step) → effect_of v e ≡ s ∷ [] → after v s ≡ after_event v e
 after_one v e s is = after_steps v e s [] is
 
+-- the answers after an event's steps, where there is one
+pub after_some : (v : View) (e : Event) (ss : List Step) → effect_of v e ≡ ss → 1 ≤ length ss → fold after v ss ≡ after_event v e
+after_some v e [] is some = absurd (omega arith)
+after_some v e (s ∷ ss) is some = after_steps v e s ss is
+
 pub after_none : (v : View) (e : Event) → effect_of v e ≡ [] → after v taken ≡ after_event v e
 after_none v e is = ap (fold after (after v taken)) (sym is)
 
@@ -65,7 +70,7 @@ bytes_of_room v (a_swapchain surface images format width height usage) few room 
 bytes_of_room v _ few room = omega arith
 
 -- what is not used is not live
-unused_dead : (v : View) → IsLawful v [] → (x : ℕ) → v.used x ≡ false → is_some (v.live x) ≡ false
+pub unused_dead : (v : View) → IsLawful v [] → (x : ℕ) → v.used x ≡ false → is_some (v.live x) ≡ false
 unused_dead v h x unused = by (v.live x) refl
   where
     by : (o : Option Object) → v.live x ≡ o → is_some o ≡ false

@@ -4,3 +4,4 @@ pub mod Gathered
 pub mod State
 pub mod Taking
 pub mod Sought
+pub mod Items

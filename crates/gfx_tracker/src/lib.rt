@@ -2,6 +2,8 @@
 #![tactic(auto)]
 
 mod asked;
+mod buffers;
+mod commands;
 mod creations;
 mod details;
 mod each;
@@ -14,6 +16,7 @@ mod queues;
 mod registry;
 mod resources;
 mod sought;
+mod spelled;
 mod state;
 mod swapchains;
 mod waits;
