@@ -3,12 +3,21 @@
 #![tactic(auto)]
 
 mod answers;
+mod areas;
 mod broken;
 mod buffers;
+mod bytes;
+mod call_faults;
+mod call_steps;
+mod changes;
 mod checks;
 mod commands;
+mod executions;
+mod faults;
+mod frames;
 mod framing;
 mod header;
+mod history;
 mod ids;
 mod items;
 mod number;
@@ -19,7 +28,10 @@ pub mod rows_objects;
 pub mod rows_others;
 pub mod rows_queue;
 pub mod rows_resources;
+mod rows_stepped;
+mod step_lists;
 mod steps;
+mod turn_lists;
 mod turns;
 mod values;
 mod view;
@@ -27,9 +39,13 @@ mod windows;
 
 pub use answers::{Binding, Object, Range, State};
 pub use broken::{fault_of, first_broken};
+pub use bytes::{byte_at, bytes_at};
 pub use checks::{Check, Earlier};
+pub use faults::fault_after;
+pub use frames::{Shown, frames_of};
 pub use framing::{Position, framing_fault, is_marker, is_skipped, is_unknown, next_position};
 pub use header::{header_fault, header_length, minor_of};
+pub use history::{effect_steps, steps_after};
 pub use ids::{Seen, live_ids};
 pub use number::{u32_at, u64_at};
 pub use questions::{
@@ -38,6 +54,8 @@ pub use questions::{
 pub use steps::{Change, Command, Detail, Step, Steps};
 pub use turns::{Turn, in_turn};
 
+#[cfg(test)]
+mod frame_tests;
 #[cfg(test)]
 mod row_tests;
 #[cfg(test)]
