@@ -2,7 +2,7 @@
 use Rattle.std.proofs.Common.{◌≡◌, ◌<◌, ◌≤◌, ◌+◌, ℕ, Bool, true, false, not, ◌&&◌, List, [], ◌∷◌, ◌++◌, Option, Some, None, map, take, length, get_or, refl, sym, ap, ◌∙◌, append-nil, IsTrue, arith}
 use Rattle.std.specs.Prelude.{is_some, is_none, IfNone, option_and_then}
 use Rattle.std.specs.List.{slice_get}
-use Rattle.std.proofs.lemmas.List.{map-append, take_more}
+use Rattle.std.proofs.lemmas.List.{map-append, take_more, take_all}
 use Rattle.std.proofs.lemmas.Option.{slice_get_past, slice_get_read}
 use Rattle.gfx_types.specs.declared.names.Fault.{Fault}
 use Rattle.gfx_types.specs.declared.frame.Frame.{Frame}
@@ -16,7 +16,9 @@ use Rattle.gfx_model.specs.Checks.{first_broken}
 use Rattle.gfx_model.specs.Table.{checks_of}
 use Rattle.gfx_model.specs.Frames.{frames}
 use Rattle.gfx_model.specs.History.{onto, steps, fault, is_valid}
+use Rattle.gfx_model.specs.Section.{section}
 use Rattle.gfx_plain.specs.declared.frames.Shown.{Shown}
+use Rattle.gfx_plain.specs.Made.{section_after}
 use Rattle.gfx_plain.specs.History.{history_of, shown_by, IsShown}
 
 onto_more : {X : Type 0} (xs h : List X) (x : X) → onto (xs ++ x ∷ []) h ≡ x ∷ onto xs h
@@ -105,3 +107,20 @@ finished es i s shown r whole taken none =
 pub not_some : (f : Option Fault) → is_some f ≡ false → f ≡ None
 not_some None e = refl
 not_some (Some x) e = absurd cc
+
+pub stepped : (es : List Effect) (i : ℕ) (e : Effect) (s now : List Step) → s ≡ steps (history_of (take i es)) → i < length es → e ≡ get_or es i e
+    → now ≡ onto (steps_of (view_of s) (event_of e)) s → now ≡ steps (history_of (take (i + 1) es))
+stepped es i e s now same lt is next =
+    next ∙ ap (λ x. onto (steps_of (view_of x) (event_of e)) x) same ∙ sym (steps_more (history_of (take i es)) (event_of e))
+    ∙ ap steps (sym (history_more es i e lt (sym is)))
+
+pub all_stepped : (es : List Effect) (i : ℕ) (s : List Step) → s ≡ steps (history_of (take i es)) → length es ≤ i → s ≡ steps (history_of es)
+all_stepped es i s same whole = same ∙ ap (λ x. steps (history_of x)) (take_all i es whole)
+
+pub no_steps : steps [] ≡ []
+unfolding steps
+no_steps = refl
+
+pub section_follows : (es : List Effect) (s : List Step) (n : ℕ) (all : List Event) → s ≡ steps (history_of es) → all ≡ section_after s n → all ≡ section (history_of es) n
+unfolding section
+section_follows es s n all same made = made ∙ ap (λ x. section_after x n) same

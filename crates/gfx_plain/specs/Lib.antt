@@ -5,3 +5,4 @@ pub mod Turns
 pub mod Checks
 pub mod Groups
 pub mod History
+pub mod Made

@@ -12,61 +12,27 @@ ghost use Rattle.gfx_plain.specs.Groups.{group_of};
 
 use crate::broken::first_broken;
 use crate::ids::Seen;
+use crate::queue_call_faults::{queue_fault, signal_fault};
 use crate::rows_commands::{
     cmd_copy_buffer, cmd_copy_buffer_to_image, cmd_copy_image, cmd_copy_image_to_buffer,
     cmd_fill_buffer, cmd_pipeline_barrier, cmd_update_buffer,
 };
-use crate::rows_lists::{
-    acquire_next_image, free_command_buffers, map_memory, reset_fences, wait_for_fences,
-};
+use crate::rows_lists::{free_command_buffers, map_memory};
 use crate::rows_objects::{
-    create_command_pool, create_device, create_fence, create_headless_surface, create_instance,
-    create_semaphore, destroy_command_pool, destroy_device, destroy_fence, destroy_instance,
-    destroy_semaphore, destroy_surface, get_device_queue, reset_command_pool,
+    create_command_pool, create_device, create_headless_surface, create_instance,
+    destroy_command_pool, destroy_device, destroy_instance, destroy_surface, get_device_queue,
+    reset_command_pool,
 };
 use crate::rows_others::{
-    begin_command_buffer, cmd_clear_color_image, create_swapchain, destroy_swapchain,
-    device_wait_idle, end_command_buffer, get_fence_status, get_swapchain_images, queue_wait_idle,
-    reset_command_buffer,
+    begin_command_buffer, cmd_clear_color_image, end_command_buffer, reset_command_buffer,
 };
-use crate::rows_queue::{allocate_command_buffers, queue_present, queue_submit};
+use crate::rows_queue::allocate_command_buffers;
 use crate::rows_resources::{
     allocate_memory, bind_buffer_memory, bind_image_memory, create_buffer, create_image,
     destroy_buffer, destroy_image, free_memory, unmap_memory,
 };
-use crate::turn_lists::{turns_of, waits_of};
-use gfx_types::{Call, Fault, Present, Submit, WantMemory};
+use gfx_types::{Call, Fault, WantMemory};
 use std::alloc::Global;
-
-/// The fault of a submit: its first broken check.
-fn submit_fault(
-    alloc: Global,
-    seen: Seen<'_, '_>,
-    queue: u64,
-    submits: &[Submit],
-    fence: u64,
-) -> Result<Option<Fault>, WantMemory>
-    ensures { IfOk result (λ f. f ≡ words.first_broken (view_of (steps_in seen.entry.steps.now)) (row_of (QueueSubmit queue submits.now fence))) }
-{
-    let turns = turns_of(alloc, submits, fence)?;
-    let row = queue_submit(alloc, queue, submits, fence, turns.as_slice())?;
-    first_broken(alloc, seen, row.as_slice())
-}
-
-/// The fault of a present: its first broken check.
-fn present_fault(
-    alloc: Global,
-    seen: Seen<'_, '_>,
-    queue: u64,
-    waits: &[u64],
-    presents: &[Present],
-) -> Result<Option<Fault>, WantMemory>
-    ensures { IfOk result (λ f. f ≡ words.first_broken (view_of (steps_in seen.entry.steps.now)) (row_of (QueuePresentKHR queue waits.now presents.now))) }
-{
-    let turns = waits_of(alloc, waits)?;
-    let row = queue_present(alloc, queue, waits, presents, turns.as_slice())?;
-    first_broken(alloc, seen, row.as_slice())
-}
 
 fn device_fault(
     alloc: Global,
@@ -278,107 +244,6 @@ fn command_fault(
             c2,
             c3,
         } => cmd_clear_color_image(alloc, seen, *cb, *image, *layout, *c0, *c1, *c2, *c3),
-        _ => unreachable!(),
-    }
-}
-
-fn signal_fault(
-    alloc: Global,
-    seen: Seen<'_, '_>,
-    call: &Call<'_>,
-) -> Result<Option<Fault>, WantMemory>
-    requires { group_of call.now ≡ group.signals }
-    ensures { IfOk result (λ f. f ≡ words.first_broken (view_of (steps_in seen.entry.steps.now)) (row_of (event_of_call call.now))) }
-{
-    match call {
-        Call::CreateFence {
-            device,
-            fence,
-            flags,
-        } => create_fence(alloc, seen, *device, *fence, *flags),
-        Call::DestroyFence { device, fence } => destroy_fence(alloc, seen, *device, *fence),
-        Call::ResetFences { device, fences } => {
-            let row = reset_fences(alloc, *device, fences.items())?;
-            first_broken(alloc, seen, row.as_slice())
-        }
-        Call::WaitForFences {
-            device,
-            fences,
-            wait_all,
-            answer,
-        } => {
-            let row = wait_for_fences(alloc, *device, fences.items(), *wait_all, *answer)?;
-            first_broken(alloc, seen, row.as_slice())
-        }
-        Call::GetFenceStatus {
-            device,
-            fence,
-            answer,
-        } => get_fence_status(alloc, seen, *device, *fence, *answer),
-        Call::CreateSemaphore { device, semaphore } => create_semaphore(
-            alloc, seen, *device, *semaphore,
-        ),
-        Call::DestroySemaphore { device, semaphore } => destroy_semaphore(
-            alloc, seen, *device, *semaphore,
-        ),
-        _ => unreachable!(),
-    }
-}
-
-fn queue_fault(
-    alloc: Global,
-    seen: Seen<'_, '_>,
-    call: &Call<'_>,
-) -> Result<Option<Fault>, WantMemory>
-    requires { group_of call.now ≡ group.queues }
-    ensures { IfOk result (λ f. f ≡ words.first_broken (view_of (steps_in seen.entry.steps.now)) (row_of (event_of_call call.now))) }
-{
-    match call {
-        Call::QueueSubmit {
-            queue,
-            submits,
-            fence,
-        } => submit_fault(alloc, seen, *queue, submits.items(), *fence),
-        Call::QueueWaitIdle { queue } => queue_wait_idle(alloc, seen, *queue),
-        Call::DeviceWaitIdle { device } => device_wait_idle(alloc, seen, *device),
-        Call::CreateSwapchainKHR {
-            device,
-            swapchain,
-            surface,
-            images,
-            format,
-            width,
-            height,
-            usage,
-        } => create_swapchain(
-            alloc, seen, *device, *swapchain, *surface, *images, *format, *width, *height, *usage,
-        ),
-        Call::DestroySwapchainKHR { device, swapchain } => destroy_swapchain(
-            alloc, seen, *device, *swapchain,
-        ),
-        Call::GetSwapchainImagesKHR {
-            device,
-            swapchain,
-            images,
-        } => get_swapchain_images(alloc, seen, *device, *swapchain, images.items()),
-        Call::AcquireNextImageKHR {
-            device,
-            swapchain,
-            semaphore,
-            fence,
-            index,
-            answer,
-        } => {
-            let row = acquire_next_image(
-                alloc, *device, *swapchain, *semaphore, *fence, *index, *answer,
-            )?;
-            first_broken(alloc, seen, row.as_slice())
-        }
-        Call::QueuePresentKHR {
-            queue,
-            waits,
-            presents,
-        } => present_fault(alloc, seen, *queue, waits.items(), presents.items()),
         _ => unreachable!(),
     }
 }

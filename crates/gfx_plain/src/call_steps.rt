@@ -8,10 +8,9 @@ ghost use Rattle.gfx_plain.specs.Steps.{steps_in, step_of};
 ghost use Rattle.gfx_plain.specs.Groups as group;
 ghost use Rattle.gfx_plain.specs.Groups.{group_of};
 
-use crate::rows_stepped::{
-    acquire_steps, fence_steps, fetch_steps, map_steps, present_steps, queue_steps, submit_steps,
-};
-use crate::step_lists::{ended, made, one, with_buffers, with_ends, with_taken};
+use crate::queue_call_steps::{signal_steps, swapchain_steps};
+use crate::rows_stepped::{map_steps, queue_steps};
+use crate::step_lists::{ended, made, one, with_buffers, with_ends};
 use crate::steps::{Command, Detail, Step, Steps};
 use gfx_types::{Call, WantMemory};
 use std::alloc::Global;
@@ -174,106 +173,6 @@ fn pool_steps<'a>(
         ),
         Call::EndCommandBuffer { cb } => one(alloc, Step::Finishes { cb: *cb }),
         Call::ResetCommandBuffer { cb } => one(alloc, Step::Resets { cb: *cb }),
-        _ => unreachable!(),
-    }
-}
-
-#[tactic(auto, unfolding(gfx_model::specs::Effects::effect_of))]
-fn signal_steps<'a>(
-    alloc: Global,
-    steps: &Steps<'a>,
-    call: &'a Call<'a>,
-) -> Result<Vec<Step<'a>>, WantMemory>
-    requires { group_of call.now ≡ group.signals }
-    ensures { IfOk result (λ all. map step_of all.items ≡ effects.effect_of (view_of (steps_in steps.now)) (event_of_call call.now)) }
-{
-    match call {
-        Call::CreateFence {
-            device,
-            fence,
-            flags,
-        } => fence_steps(alloc, steps, *device, *fence, *flags),
-        Call::DestroyFence { device: _, fence } => ended(alloc, *fence),
-        Call::ResetFences { device: _, fences } => with_taken(Vec::new(alloc), fences.items()),
-        Call::WaitForFences { .. } => Ok(Vec::new(alloc)),
-        Call::GetFenceStatus { .. } => Ok(Vec::new(alloc)),
-        Call::CreateSemaphore { device, semaphore } => made(
-            alloc,
-            *semaphore,
-            *device,
-            Detail::Semaphore,
-        ),
-        Call::DestroySemaphore {
-            device: _,
-            semaphore,
-        } => ended(alloc, *semaphore),
-        _ => unreachable!(),
-    }
-}
-
-#[tactic(auto, unfolding(gfx_model::specs::Effects::effect_of))]
-fn swapchain_steps<'a>(
-    alloc: Global,
-    steps: &Steps<'a>,
-    call: &'a Call<'a>,
-) -> Result<Vec<Step<'a>>, WantMemory>
-    requires { group_of call.now ≡ group.queues }
-    ensures { IfOk result (λ all. map step_of all.items ≡ effects.effect_of (view_of (steps_in steps.now)) (event_of_call call.now)) }
-{
-    match call {
-        Call::QueueSubmit {
-            queue,
-            submits,
-            fence,
-        } => submit_steps(alloc, steps, *queue, submits.items(), *fence),
-        Call::QueueWaitIdle { .. } => Ok(Vec::new(alloc)),
-        Call::DeviceWaitIdle { .. } => Ok(Vec::new(alloc)),
-        Call::CreateSwapchainKHR {
-            device,
-            swapchain,
-            surface,
-            images,
-            format,
-            width,
-            height,
-            usage,
-        } => made(
-            alloc,
-            *swapchain,
-            *device,
-            Detail::Swapchain {
-                surface: *surface,
-                images: *images,
-                format: *format,
-                width: *width,
-                height: *height,
-                usage: *usage,
-            },
-        ),
-        Call::DestroySwapchainKHR {
-            device: _,
-            swapchain,
-        } => ended(alloc, *swapchain),
-        Call::GetSwapchainImagesKHR {
-            device,
-            swapchain,
-            images,
-        } => fetch_steps(alloc, steps, *device, *swapchain, images.items()),
-        Call::AcquireNextImageKHR {
-            device,
-            swapchain,
-            semaphore,
-            fence,
-            index,
-            answer,
-        } => acquire_steps(
-            alloc, steps, *device, *swapchain, *semaphore, *fence, *index, *answer,
-        ),
-        Call::QueuePresentKHR {
-            queue,
-            waits,
-            presents,
-        } => present_steps(alloc, steps, *queue, waits.items(), presents.items()),
         _ => unreachable!(),
     }
 }

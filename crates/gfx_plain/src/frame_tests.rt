@@ -1,9 +1,12 @@
 //! One capture, worked by hand as a list of effects: its frame, its bytes and the faults of what follows some of them.
 
-use crate::{Step, Steps, byte_at, bytes_at, effect_steps, fault_after, frames_of, steps_after};
+use crate::{
+    Made, Step, byte_at, bytes_at, effect_steps, fault_after, frames_of, section_for, section_of,
+    steps_after, steps_of,
+};
 use gfx_types::{
     Barrier, Barriers, Call, Effect, Fault, Format, Ids, Meta, MixedRegion, MixedRegions, Place,
-    Present, Presents, Submit, Submits, WantMemory,
+    Present, Presents, Submit, Submits,
 };
 use std::alloc::{AllocError, Global};
 use std::test::Fail;
@@ -207,14 +210,6 @@ fn worked(alloc: Global, count: usize) -> Result<Vec<Effect<'static>>, Fail> {
     Ok(all)
 }
 
-fn history<'a>(alloc: Global, effects: &'a [Effect<'a>]) -> Result<Steps<'a>, WantMemory> {
-    let mut steps = Steps::Start;
-    for effect in effects {
-        steps = steps_after(alloc, steps, effect)?;
-    }
-    Ok(steps)
-}
-
 #[test]
 fn a_capture_shows_the_bytes_that_it_copies(rt: HostRuntime) -> Result<(), Fail> {
     let effects = worked(rt.alloc(), 22)?;
@@ -249,7 +244,7 @@ fn a_capture_ends_at_its_first_fault(rt: HostRuntime) -> Result<(), Fail> {
 
 fn fault(alloc: Global, count: usize, effect: &Effect<'_>) -> Result<Option<Fault>, Fail> {
     let effects = worked(alloc, count)?;
-    let steps = history(alloc, effects.as_slice())?;
+    let steps = steps_of(alloc, effects.as_slice())?;
     Ok(fault_after(alloc, &steps, effect)?)
 }
 
@@ -290,7 +285,7 @@ fn what_follows_a_front_of_the_capture_has_its_fault(rt: HostRuntime) -> Result<
 fn a_place_has_the_bytes_that_were_put_there_last(rt: HostRuntime) -> Result<(), Fail> {
     let alloc = rt.alloc();
     let effects = worked(alloc, 22)?;
-    let steps = history(alloc, effects.as_slice())?;
+    let steps = steps_of(alloc, effects.as_slice())?;
     assert_eq!(rt; byte_at(&steps, Place::Memory(8), 1), b'b');
     assert_eq!(rt; byte_at(&steps, Place::Memory(8), 3), 0);
     assert_eq!(rt; byte_at(&steps, Place::Image(8), 1), 0);
@@ -303,7 +298,7 @@ fn a_place_has_the_bytes_that_were_put_there_last(rt: HostRuntime) -> Result<(),
 fn a_map_of_the_whole_reaches_to_the_end(rt: HostRuntime) -> Result<(), Fail> {
     let alloc = rt.alloc();
     let effects = worked(alloc, 8)?;
-    let steps = history(alloc, effects.as_slice())?;
+    let steps = steps_of(alloc, effects.as_slice())?;
     let map = Effect::Call(Call::MapMemory {
         device: 3,
         memory: 8,
@@ -322,5 +317,54 @@ fn a_map_of_the_whole_reaches_to_the_end(rt: HostRuntime) -> Result<(), Fail> {
             }
         )
     );
+    Ok(())
+}
+
+#[test]
+fn the_section_makes_the_memory_and_the_image_anew(rt: HostRuntime) -> Result<(), Fail> {
+    let alloc = rt.alloc();
+    let effects = worked(alloc, 22)?;
+    let section = section_for(alloc, effects.as_slice(), 2)?;
+    assert_eq!(rt; section.len(), 23);
+    assert!(rt; matches!(section[0], Made::Begin { frame: 2 }));
+    let mut filled = 0;
+    let mut shown = 0;
+    for made in section.as_slice() {
+        match made {
+            Made::Fill {
+                memory: 8,
+                offset: 0,
+                bytes,
+            } => {
+                assert_eq!(rt; bytes.items(), b"abc".as_slice());
+                filled += 1;
+            }
+            Made::Init {
+                image: 6,
+                layout: 1_000_001_002,
+                bytes,
+            } => {
+                assert_eq!(rt; bytes.items(), b"abc".as_slice());
+                shown += 1;
+            }
+            _ => {}
+        }
+    }
+    assert_eq!(rt; (filled, shown), (1, 1));
+    Ok(())
+}
+
+#[test]
+fn a_freed_memory_takes_its_binding_and_its_commands(rt: HostRuntime) -> Result<(), Fail> {
+    let alloc = rt.alloc();
+    let effects = worked(alloc, 22)?;
+    let free = Effect::Call(Call::FreeMemory {
+        device: 3,
+        memory: 8,
+    });
+    let steps = steps_of(alloc, effects.as_slice())?;
+    let freed = steps_after(alloc, steps, &free)?;
+    let section = section_of(alloc, &freed, 2)?;
+    assert_eq!(rt; section.len(), 14);
     Ok(())
 }

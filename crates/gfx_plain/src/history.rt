@@ -6,6 +6,7 @@ ghost use Rattle.gfx_model.specs.Views.{view_of};
 ghost use Rattle.gfx_model.specs.Effects as effects;
 ghost use Rattle.gfx_model.specs.History as history;
 ghost use Rattle.gfx_plain.specs.Steps.{steps_in, step_of};
+ghost use Rattle.gfx_plain.specs.History.{history_of};
 
 use crate::call_steps::call_steps;
 use crate::rows_stepped::init_steps;
@@ -99,4 +100,15 @@ pub fn steps_after<'a>(
     let more = effect_steps(alloc, &steps, effect)?;
     let taken = steps.with(alloc, Step::Taken)?;
     onto(alloc, taken, more.as_slice())
+}
+
+/// The list of steps of effects that stand one after another.
+pub fn steps_of<'a>(alloc: Global, effects: &'a [Effect<'a>]) -> Result<Steps<'a>, WantMemory>
+    ensures { IfOk result (λ all. steps_in all ≡ history.steps (history_of effects.now)) }
+{
+    let mut steps = Steps::Start;
+    'effects: for effect in effects {
+        steps = steps_after(alloc, steps, effect)?;
+    }
+    Ok(steps)
 }

@@ -4,7 +4,7 @@ use Rattle.gfx_model.specs.Events.{event_of_call}
 use Rattle.gfx_model.specs.Views.{view_of}
 use Rattle.gfx_model.specs.Effects.{effect_of}
 use Rattle.gfx_plain.specs.Steps.{steps_in, step_of}
-use Rattle.gfx_plain.proofs.call_steps.swapchain_steps.Goals as goal
+use Rattle.gfx_plain.proofs.queue_call_steps.swapchain_steps.Goals as goal
 
 pub returns-in-GetSwapchainImagesKHR : goal.returns-in-GetSwapchainImagesKHR
 returns-in-GetSwapchainImagesKHR c =
