@@ -1,5 +1,5 @@
-//! Slow functions that compute the definitions, for tests: the framing of a file, what is asked of a list of steps,
-//! and the faults of the check table. No program calls them.
+//! Slow functions that compute the definitions, for tests: the framing of a file, what is asked of a list of steps, the
+//! faults and the steps of effects, the bytes of places, frames, and state sections. No program calls them.
 #![tactic(auto)]
 
 mod answers;
@@ -63,6 +63,8 @@ pub use section::{section_for, section_of};
 pub use steps::{Change, Command, Detail, Step, Steps};
 pub use turns::{Turn, in_turn};
 
+#[cfg(test)]
+mod captures;
 #[cfg(test)]
 mod frame_tests;
 #[cfg(test)]
