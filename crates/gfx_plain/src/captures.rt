@@ -10,14 +10,17 @@ use std::test::Fail;
 /// VK_WHOLE_SIZE.
 pub const WHOLE: u64 = u64::MAX;
 
-fn put(all: &mut Vec<Effect<'static>>, effect: Effect<'static>) -> Result<(), AllocError> {
+type Effects = Vec<Effect<'static>>;
+
+fn put(all: Effects, effect: Effect<'static>) -> Result<Effects, AllocError> {
+    let mut all = all;
     match all.push(effect) {
-        Ok(()) => Ok(()),
+        Ok(()) => Ok(all),
         Err(_) => Err(AllocError),
     }
 }
 
-fn call(all: &mut Vec<Effect<'static>>, call: Call<'static>) -> Result<(), AllocError> {
+fn call(all: Effects, call: Call<'static>) -> Result<Effects, AllocError> {
     put(all, Effect::Call(call))
 }
 
@@ -84,21 +87,17 @@ pub fn present(alloc: Global) -> Result<Call<'static>, AllocError> {
 }
 
 /// An instance 1 with a surface 2, and a device 3 with its queue 4.
-fn put_device(all: &mut Vec<Effect<'static>>) -> Result<(), AllocError> {
+fn put_device(all: Effects) -> Result<Effects, AllocError> {
     let (instance, surface, device, queue) = (1, 2, 3, 4);
     let api = 4_194_304;
-    call(all, Call::CreateInstance { instance, api })?;
-    call(all, Call::CreateHeadlessSurfaceEXT { instance, surface })?;
-    call(all, Call::CreateDevice { instance, device })?;
+    let all = call(all, Call::CreateInstance { instance, api })?;
+    let all = call(all, Call::CreateHeadlessSurfaceEXT { instance, surface })?;
+    let all = call(all, Call::CreateDevice { instance, device })?;
     call(all, Call::GetDeviceQueue { device, queue })
 }
 
 /// A swapchain 5 of one image 6 of so many texels, and a fence 7.
-fn put_swapchain(
-    alloc: Global,
-    all: &mut Vec<Effect<'static>>,
-    width: u32,
-) -> Result<(), AllocError> {
+fn put_swapchain(alloc: Global, all: Effects, width: u32) -> Result<Effects, AllocError> {
     let swapchain = Call::CreateSwapchainKHR {
         device: 3,
         swapchain: 5,
@@ -119,13 +118,13 @@ fn put_swapchain(
         fence: 7,
         flags: 0,
     };
-    call(all, swapchain)?;
-    call(all, images)?;
+    let all = call(all, swapchain)?;
+    let all = call(all, images)?;
     call(all, fence)
 }
 
 /// A mapped memory 8 with three bytes, and a buffer 9 that is bound to it.
-fn put_buffer(all: &mut Vec<Effect<'static>>) -> Result<(), AllocError> {
+fn put_buffer(all: Effects) -> Result<Effects, AllocError> {
     let (device, memory, buffer, offset) = (3, 8, 9, 0);
     let allocated = Call::AllocateMemory {
         device,
@@ -155,23 +154,18 @@ fn put_buffer(all: &mut Vec<Effect<'static>>) -> Result<(), AllocError> {
         memory,
         offset,
     };
-    call(all, allocated)?;
-    call(all, mapped)?;
-    put(all, Effect::Meta(filled))?;
-    call(all, created)?;
+    let all = call(all, allocated)?;
+    let all = call(all, mapped)?;
+    let all = put(all, Effect::Meta(filled))?;
+    let all = call(all, created)?;
     call(all, bound)
 }
 
 /// A command buffer of a pool, which begins.
-fn put_pool(
-    alloc: Global,
-    all: &mut Vec<Effect<'static>>,
-    pool: u64,
-    cb: u64,
-) -> Result<(), AllocError> {
+fn put_pool(alloc: Global, all: Effects, pool: u64, cb: u64) -> Result<Effects, AllocError> {
     let (device, flags) = (3, 2);
     let buffers = ids(alloc, cb)?;
-    call(
+    let all = call(
         all,
         Call::CreateCommandPool {
             device,
@@ -179,7 +173,7 @@ fn put_pool(
             flags,
         },
     )?;
-    call(
+    let all = call(
         all,
         Call::AllocateCommandBuffers {
             device,
@@ -192,17 +186,17 @@ fn put_pool(
 
 fn put_barrier(
     alloc: Global,
-    all: &mut Vec<Effect<'static>>,
+    all: Effects,
     cb: u64,
     before: u32,
     after: u32,
-) -> Result<(), AllocError> {
+) -> Result<Effects, AllocError> {
     let barriers = barrier(alloc, before, after)?;
     call(all, Call::CmdPipelineBarrier { cb, barriers })
 }
 
 /// The image is acquired, drawn and presented.
-fn put_frame(alloc: Global, all: &mut Vec<Effect<'static>>, cb: u64) -> Result<(), AllocError> {
+fn put_frame(alloc: Global, all: Effects, cb: u64) -> Result<Effects, AllocError> {
     let acquired = Call::AcquireNextImageKHR {
         device: 3,
         swapchain: 5,
@@ -213,35 +207,33 @@ fn put_frame(alloc: Global, all: &mut Vec<Effect<'static>>, cb: u64) -> Result<(
     };
     let submitted = submit(alloc, &[cb])?;
     let presented = present(alloc)?;
-    call(all, acquired)?;
-    call(all, submitted)?;
+    let all = call(all, acquired)?;
+    let all = call(all, submitted)?;
     call(all, presented)
 }
 
 /// The first effects, at most so many, of the smallest capture that shows a frame of three bytes.
 pub fn worked(alloc: Global, count: usize) -> Result<Vec<Effect<'static>>, Fail> {
-    let mut all = Vec::new(alloc);
-    put_device(&mut all)?;
-    put_swapchain(alloc, &mut all, 3)?;
-    put_buffer(&mut all)?;
-    put_pool(alloc, &mut all, 10, 11)?;
-    put_barrier(alloc, &mut all, 11, 0, 7)?;
-    call(&mut all, upload(alloc, 0, 3)?)?;
-    put_barrier(alloc, &mut all, 11, 7, 1_000_001_002)?;
-    call(&mut all, Call::EndCommandBuffer { cb: 11 })?;
-    put_frame(alloc, &mut all, 11)?;
+    let all = put_device(Vec::new(alloc))?;
+    let all = put_swapchain(alloc, all, 3)?;
+    let all = put_buffer(all)?;
+    let all = put_pool(alloc, all, 10, 11)?;
+    let all = put_barrier(alloc, all, 11, 0, 7)?;
+    let all = call(all, upload(alloc, 0, 3)?)?;
+    let all = put_barrier(alloc, all, 11, 7, 1_000_001_002)?;
+    let all = call(all, Call::EndCommandBuffer { cb: 11 })?;
+    let mut all = put_frame(alloc, all, 11)?;
     all.truncate(count);
     Ok(all)
 }
 
 /// The capture `examples/first.gfxcap`: an image of one texel that nothing is written to is shown.
 pub fn first(alloc: Global) -> Result<Vec<Effect<'static>>, Fail> {
-    let mut all = Vec::new(alloc);
-    put_device(&mut all)?;
-    put_swapchain(alloc, &mut all, 1)?;
-    put_pool(alloc, &mut all, 8, 9)?;
-    put_barrier(alloc, &mut all, 9, 0, 1_000_001_002)?;
-    call(&mut all, Call::EndCommandBuffer { cb: 9 })?;
-    put_frame(alloc, &mut all, 9)?;
+    let all = put_device(Vec::new(alloc))?;
+    let all = put_swapchain(alloc, all, 1)?;
+    let all = put_pool(alloc, all, 8, 9)?;
+    let all = put_barrier(alloc, all, 9, 0, 1_000_001_002)?;
+    let all = call(all, Call::EndCommandBuffer { cb: 9 })?;
+    let all = put_frame(alloc, all, 9)?;
     Ok(all)
 }
