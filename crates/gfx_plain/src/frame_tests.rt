@@ -150,8 +150,8 @@ fn the_section_makes_the_memory_and_the_image_anew(rt: HostRuntime) -> Result<()
     let section = section_for(alloc, effects.as_slice(), 2)?;
     assert_eq!(rt; section.len(), 23);
     assert!(rt; matches!(section.as_slice().first(), Some(Made::Begin { frame: 2 })));
-    let mut filled = 0;
-    let mut shown = 0;
+    let mut filled = false;
+    let mut shown = false;
     for made in section.as_slice() {
         match made {
             Made::Fill {
@@ -160,7 +160,7 @@ fn the_section_makes_the_memory_and_the_image_anew(rt: HostRuntime) -> Result<()
                 bytes,
             } => {
                 assert_eq!(rt; bytes.items(), b"abc".as_slice());
-                filled += 1;
+                filled = true;
             }
             Made::Init {
                 image: 6,
@@ -168,12 +168,13 @@ fn the_section_makes_the_memory_and_the_image_anew(rt: HostRuntime) -> Result<()
                 bytes,
             } => {
                 assert_eq!(rt; bytes.items(), b"abc".as_slice());
-                shown += 1;
+                shown = true;
             }
             _ => {}
         }
     }
-    assert_eq!(rt; (filled, shown), (1, 1));
+    assert!(rt; filled);
+    assert!(rt; shown);
     Ok(())
 }
 
