@@ -231,13 +231,12 @@ fn submit_of(alloc: Global, cbs: &[u64]) -> Result<Submit, Fail> {
 // Whether a layout differs there, none where there is no such place.
 fn differs(
     recordings: &Recordings,
-    submits: &Submits,
-    submit: u32,
-    at: u32,
+    submits: &[Submit],
+    submit: usize,
+    at: usize,
     objects: &Objects,
 ) -> Option<bool> {
-    let items = submits.items();
-    if submit as usize >= items.len() || at as usize >= items[submit as usize].cbs.items().len() {
+    if submit >= submits.len() || at >= submits[submit].cbs.items().len() {
         return None;
     }
     Some(recordings.layout_differs(submits, submit, at, objects))
@@ -278,7 +277,13 @@ fn a_layout_is_the_one_that_earlier_buffers_leave(rt: HostRuntime) -> Result<(),
     let objects = with_pools(rt.alloc())?;
     let recordings = with_layouts(rt.alloc())?;
     let submits = two_submits(rt.alloc(), &[11, 10], &[11])?;
-    assert_eq!(rt; differs(&recordings, &submits, 0, 0, &objects), Some(true));
-    assert_eq!(rt; differs(&recordings, &submits, 1, 0, &objects), Some(false));
+    assert_eq!(rt;
+        differs(&recordings, submits.items(), 0, 0, &objects),
+        Some(true)
+    );
+    assert_eq!(rt;
+        differs(&recordings, submits.items(), 1, 0, &objects),
+        Some(false)
+    );
     Ok(())
 }

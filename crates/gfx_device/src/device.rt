@@ -6,7 +6,7 @@ ghost use Rattle.gfx_pages.specs.Lists.{overwrite, repeated};
 ghost use Rattle.gfx_device.specs.Rows.{AreWithin, copied};
 
 use crate::op::{DeviceOp, Handle};
-use crate::rows::{Rows, copy_rows, move_rows};
+use crate::rows::{Rows, copy_apart, move_rows};
 use gfx_pages::{Bytes, Span};
 use gfx_types::WantMemory;
 use slab::Slab;
@@ -182,7 +182,7 @@ impl Device {
     {
         let mut target = self.places.remove(to.key);
         let source = &self.places[from.key];
-        let done = copy_rows(&mut target, source, copy);
+        let done = copy_apart(&mut target, source, copy);
         let _key = self.places.insert_reserved(target);
         done
     }

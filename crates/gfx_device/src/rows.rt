@@ -1,5 +1,5 @@
 // The rows of a copy.
-ghost use Rattle.std.specs.Prelude.{◌≡◌, length, OnOk};
+ghost use Rattle.std.specs.Prelude.{◌≡◌, ◌<◌, length, OnOk};
 ghost use Rattle.gfx_device.specs.Rows.{copied, AreWithin};
 
 use gfx_pages::{Bytes, WantMemory};
@@ -16,7 +16,41 @@ pub struct Rows {
 }
 
 // Copies rows of other bytes, in order.
-pub fn copy_rows(target: &mut Bytes, source: &Bytes, copy: Rows) -> Result<(), WantMemory>
+pub fn copy_apart(target: &mut Bytes, source: &Bytes, copy: Rows) -> Result<(), WantMemory>
+    requires to { AreWithin (length target.old) copy.to_offset copy.to_step copy.length copy.rows }
+    requires from { AreWithin (length source.now) copy.from_offset copy.from_step copy.length copy.rows }
+    ensures ok { OnOk result (target.new ≡ copied copy (λ _. source.now) copy.rows target.old) }
+    ensures same_length { length target.new ≡ length target.old }
+{
+    let without_gap = copy.to_step == copy.length && copy.from_step == copy.length;
+    if copy.rows > 0 && without_gap {
+        copy_joined(target, source, copy)
+    } else {
+        copy_rows(target, source, copy)
+    }
+}
+
+// Copies rows that follow one another without a gap on both sides, as one.
+fn copy_joined(target: &mut Bytes, source: &Bytes, copy: Rows) -> Result<(), WantMemory>
+    requires some { 0 < copy.rows }
+    requires to_step { copy.to_step ≡ copy.length }
+    requires from_step { copy.from_step ≡ copy.length }
+    requires to { AreWithin (length target.old) copy.to_offset copy.to_step copy.length copy.rows }
+    requires from { AreWithin (length source.now) copy.from_offset copy.from_step copy.length copy.rows }
+    ensures ok { OnOk result (target.new ≡ copied copy (λ _. source.now) copy.rows target.old) }
+    ensures same_length { length target.new ≡ length target.old }
+{
+    let _lengths = (target.length(), source.length());
+    target.copy_from(
+        copy.to_offset,
+        source,
+        copy.from_offset,
+        copy.rows * copy.length,
+    )
+}
+
+// Copies rows of other bytes one by one.
+fn copy_rows(target: &mut Bytes, source: &Bytes, copy: Rows) -> Result<(), WantMemory>
     requires to { AreWithin (length target.old) copy.to_offset copy.to_step copy.length copy.rows }
     requires from { AreWithin (length source.now) copy.from_offset copy.from_step copy.length copy.rows }
     ensures ok { OnOk result (target.new ≡ copied copy (λ _. source.now) copy.rows target.old) }

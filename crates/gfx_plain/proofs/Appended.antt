@@ -38,3 +38,13 @@ allocated v head ids n h f r a b c =
 pub three : {A : Type 0} (c a b d one two all : List A) → one ≡ c ++ a → two ≡ one ++ b → all ≡ two ++ d → all ≡ c ++ (a ++ b ++ d)
 three c a b d one two all e f g =
     g ∙ ap (λ x. x ++ d) (f ∙ ap (λ x. x ++ b) e ∙ append_assoc c a b) ∙ append_assoc c (a ++ b) d
+
+pub two : {A : Type 0} (c a b one all : List A) → one ≡ c ++ a → all ≡ one ++ b → all ≡ c ++ (a ++ b)
+two c a b one all e f = f ∙ ap (λ x. x ++ b) e ∙ append_assoc c a b
+
+pub four : {A : Type 0} (c a b d e one two_ three_ all : List A) → one ≡ c ++ a → two_ ≡ one ++ b → three_ ≡ two_ ++ d → all ≡ three_ ++ e
+    → all ≡ c ++ ((a ++ b) ++ (d ++ e))
+four c a b d e one two_ three_ all f g h i =
+    two (one ++ b) d e three_ all (h ∙ ap (λ x. x ++ d) g) i
+    ∙ ap (λ x. x ++ (d ++ e)) (two c a b one (one ++ b) f refl)
+    ∙ append_assoc c (a ++ b) (d ++ e)

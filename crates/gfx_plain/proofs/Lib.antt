@@ -5,3 +5,6 @@ pub mod Sizes
 pub mod Indices
 pub mod Joined
 pub mod Appended
+pub mod Presents
+pub mod Histories
+pub mod Rows

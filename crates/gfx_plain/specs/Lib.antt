@@ -3,3 +3,6 @@ pub mod Steps
 pub mod Answers
 pub mod Turns
 pub mod Checks
+pub mod Groups
+pub mod History
+pub mod Made

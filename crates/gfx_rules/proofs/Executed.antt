@@ -11,8 +11,8 @@ use Rattle.gfx_model.specs.Views.{View}
 use Rattle.gfx_model.specs.Checks.{Turn, Layouts, turns_of, turns_of_submit, turns_fault, but, layouts_after, meets, is_executable, unless, first}
 use Rattle.gfx_model.specs.Checks.Turn.{wait, execute, signal}
 use Rattle.gfx_model.specs.Checks.Layouts.{stays, goes}
-use Rattle.gfx_rules.specs.Layouts.{asked_in}
-use Rattle.gfx_rules.specs.Turns.{signals_after, signals_behind, layouts_behind, turns_at}
+use Rattle.gfx_commands.specs.Layouts.{asked_in, layouts_by}
+use Rattle.gfx_rules.specs.Turns.{signals_after, signals_behind, turns_at}
 use Rattle.gfx_rules.proofs.Joined.{first_assoc}
 use Rattle.gfx_rules.proofs.Signals.{signals_append, after_executes, flat_append}
 
@@ -22,7 +22,7 @@ after_append f (stays i l ∷ ls) ms = after_append f ls ms
 after_append f (goes i b a ∷ ls) ms = after_append (but i a f) ls ms
 
 -- the layouts behind two lists of command buffers
-behind_append : (b : ℕ → Buffer) (l : ℕ → ℕ) (xs ys : List ℕ) → layouts_behind b l (xs ++ ys) ≡ layouts_behind b (layouts_behind b l xs) ys
+behind_append : (b : ℕ → Buffer) (l : ℕ → ℕ) (xs ys : List ℕ) → layouts_by b l (xs ++ ys) ≡ layouts_by b (layouts_by b l xs) ys
 behind_append b l xs ys =
     ap (layouts_after l) (flat_append (asked_in b) xs ys) ∙ after_append l (flat_map (asked_in b) xs) (flat_map (asked_in b) ys)
 
@@ -30,14 +30,14 @@ behind_append b l xs ys =
 
 -- the command buffers before a place, behind some
 abbrev pub here : View → List ℕ → List ℕ → ℕ → ℕ → ℕ
-here v before cbs i = layouts_behind v.buffer v.layout (before ++ take i cbs)
+here v before cbs i = layouts_by v.buffer v.layout (before ++ take i cbs)
 
 here_more : (v : View) (before cbs : List ℕ) (i : ℕ) → i < length cbs
     → layouts_after (here v before cbs i) (asked_in v.buffer (get_or cbs i 0)) ≡ here v before cbs (i + 1)
 here_more v before cbs i h =
     ap (layouts_after (here v before cbs i)) (sym (append-nil (asked_in v.buffer (get_or cbs i 0))))
-    ∙ sym (ap (λ xs. layouts_behind v.buffer v.layout (before ++ xs)) (take_more cbs i 0 h)
-    ∙ ap (layouts_behind v.buffer v.layout) (sym (append_assoc before (take i cbs) (get_or cbs i 0 ∷ [])))
+    ∙ sym (ap (λ xs. layouts_by v.buffer v.layout (before ++ xs)) (take_more cbs i 0 h)
+    ∙ ap (layouts_by v.buffer v.layout) (sym (append_assoc before (take i cbs) (get_or cbs i 0 ∷ [])))
     ∙ behind_append v.buffer v.layout (before ++ take i cbs) (get_or cbs i 0 ∷ []))
 
 execute_rest : (v : View) (f : ℕ → Bool) (before cbs : List ℕ) (i : ℕ) (ready met : Bool) → i < length cbs
@@ -98,21 +98,21 @@ inner : (a b c d : Option Fault) → first a (first b (first c d)) ≡ first (fi
 inner a b c d = sym (first_assoc a (first b c) d ∙ ap (first a) (first_assoc b c d))
 
 pub split : (v : View) (f : ℕ → Bool) (l : ℕ → ℕ) (ts us : List Turn)
-    → turns_fault v f l (ts ++ us) ≡ first (turns_fault v f l ts) (turns_fault v (signals_after f ts) (layouts_behind v.buffer l (executed ts)) us)
+    → turns_fault v f l (ts ++ us) ≡ first (turns_fault v f l ts) (turns_fault v (signals_after f ts) (layouts_by v.buffer l (executed ts)) us)
 unfolding turns_fault
 split v f l [] us = refl
 split v f l (wait s ∷ ts) us =
     ap (first (unless (f s) SignalState)) (split v (but s false f) l ts us)
-    ∙ sym (first_assoc (unless (f s) SignalState) (turns_fault v (but s false f) l ts) (turns_fault v (signals_after (but s false f) ts) (layouts_behind v.buffer l (executed ts)) us))
+    ∙ sym (first_assoc (unless (f s) SignalState) (turns_fault v (but s false f) l ts) (turns_fault v (signals_after (but s false f) ts) (layouts_by v.buffer l (executed ts)) us))
 split v f l (execute cb ∷ ts) us = let asked = asked_in v.buffer cb in
     ap (λ o. first (unless (is_executable (v.buffer cb).state) CommandState) (first (unless (meets l asked) LayoutDiffers) o))
     (split v f (layouts_after l asked) ts us
     ∙ ap (λ g. first (turns_fault v f (layouts_after l asked) ts) (turns_fault v (signals_after f ts) g us)) (sym (after_append l asked (flat_map (asked_in v.buffer) (executed ts)))))
     ∙ inner (unless (is_executable (v.buffer cb).state) CommandState) (unless (meets l asked) LayoutDiffers) (turns_fault v f (layouts_after l asked) ts)
-    (turns_fault v (signals_after f ts) (layouts_behind v.buffer l (cb ∷ executed ts)) us)
+    (turns_fault v (signals_after f ts) (layouts_by v.buffer l (cb ∷ executed ts)) us)
 split v f l (signal s ∷ ts) us =
     ap (first (unless (not (f s)) SignalState)) (split v (but s true f) l ts us)
-    ∙ sym (first_assoc (unless (not (f s)) SignalState) (turns_fault v (but s true f) l ts) (turns_fault v (signals_after (but s true f) ts) (layouts_behind v.buffer l (executed ts)) us))
+    ∙ sym (first_assoc (unless (not (f s)) SignalState) (turns_fault v (but s true f) l ts) (turns_fault v (signals_after (but s true f) ts) (layouts_by v.buffer l (executed ts)) us))
 
 executed_append : (ts us : List Turn) → executed (ts ++ us) ≡ executed ts ++ executed us
 executed_append [] us = refl
@@ -149,9 +149,9 @@ parts v f l s a b c e x y =
     let W = map wait s.waits in let E = map execute s.cbs in let S = map signal s.signals in
     let same : signals_after f (W ++ E) ≡ signals_after f W = signals_append f W E ∙ after_executes (signals_after f W) s.cbs in
     ap (λ o. first (first o b) c) e
-    ∙ ap (λ o. first (first (turns_fault v f l W) o) c) (x (signals_after f W) ∙ ap (λ xs. turns_fault v (signals_after f W) (layouts_behind v.buffer l xs) E) (sym (of_waits s.waits)))
+    ∙ ap (λ o. first (first (turns_fault v f l W) o) c) (x (signals_after f W) ∙ ap (λ xs. turns_fault v (signals_after f W) (layouts_by v.buffer l xs) E) (sym (of_waits s.waits)))
     ∙ ap (λ o. first o c) (sym (split v f l W E))
-    ∙ ap (first (turns_fault v f l (W ++ E))) (y (layouts_behind v.buffer l (executed (W ++ E))) ∙ ap (λ g. turns_fault v g (layouts_behind v.buffer l (executed (W ++ E))) S) (sym same))
+    ∙ ap (first (turns_fault v f l (W ++ E))) (y (layouts_by v.buffer l (executed (W ++ E))) ∙ ap (λ g. turns_fault v g (layouts_by v.buffer l (executed (W ++ E))) S) (sym same))
     ∙ sym (split v f l (W ++ E) S)
 
 -- ---- submit by submit
@@ -179,37 +179,37 @@ take_cbs (x ∷ xs) (suc i) =
 -- the fault of the submits from a place on
 abbrev pub from : View → List Submit → ℕ → Option Fault
 from v submits i =
-    turns_fault v (signals_behind v.signalled (take i submits)) (layouts_behind v.buffer v.layout (flat_map (λ s. s.cbs) (take i submits))) (flat_map turns_of_submit (drop i submits))
+    turns_fault v (signals_behind v.signalled (take i submits)) (layouts_by v.buffer v.layout (flat_map (λ s. s.cbs) (take i submits))) (flat_map turns_of_submit (drop i submits))
 
 rest : (v : View) (submits : List Submit) (i : ℕ)
-    → from v submits i ≡ first (turns_fault v (signals_behind v.signalled (take i submits)) (layouts_behind v.buffer v.layout (flat_map (λ s. s.cbs) (take i submits))) (turns_at submits i)) (from v submits (i + 1))
+    → from v submits i ≡ first (turns_fault v (signals_behind v.signalled (take i submits)) (layouts_by v.buffer v.layout (flat_map (λ s. s.cbs) (take i submits))) (turns_at submits i)) (from v submits (i + 1))
 rest v submits i =
     let f = signals_behind v.signalled (take i submits) in
-    let l = layouts_behind v.buffer v.layout (flat_map (λ s. s.cbs) (take i submits)) in
+    let l = layouts_by v.buffer v.layout (flat_map (λ s. s.cbs) (take i submits)) in
     let ts = turns_at submits i in
     let signals : signals_after f ts ≡ signals_behind v.signalled (take (suc i) submits) =
     sym (ap (signals_after v.signalled) (take_turns submits i) ∙ signals_append v.signalled (flat_map turns_of_submit (take i submits)) ts) in
-    let layouts : layouts_behind v.buffer l (executed ts) ≡ layouts_behind v.buffer v.layout (flat_map (λ s. s.cbs) (take (suc i) submits)) =
-    sym (ap (layouts_behind v.buffer v.layout) (take_cbs submits i) ∙ behind_append v.buffer v.layout (flat_map (λ s. s.cbs) (take i submits)) (executed ts)) in
+    let layouts : layouts_by v.buffer l (executed ts) ≡ layouts_by v.buffer v.layout (flat_map (λ s. s.cbs) (take (suc i) submits)) =
+    sym (ap (layouts_by v.buffer v.layout) (take_cbs submits i) ∙ behind_append v.buffer v.layout (flat_map (λ s. s.cbs) (take i submits)) (executed ts)) in
     ap (turns_fault v f l) (drop_turns submits i) ∙ split v f l ts (flat_map turns_of_submit (drop (suc i) submits))
-    ∙ ap (λ g. first (turns_fault v f l ts) (turns_fault v g (layouts_behind v.buffer l (executed ts)) (flat_map turns_of_submit (drop (suc i) submits)))) signals
+    ∙ ap (λ g. first (turns_fault v f l ts) (turns_fault v g (layouts_by v.buffer l (executed ts)) (flat_map turns_of_submit (drop (suc i) submits)))) signals
     ∙ ap (λ m. first (turns_fault v f l ts) (turns_fault v (signals_behind v.signalled (take (suc i) submits)) m (flat_map turns_of_submit (drop (suc i) submits)))) layouts
     ∙ ap (λ n. first (turns_fault v f l ts) (from v submits n)) (sym (add-one i))
 
 pub submit_breaks : (v : View) (submits : List Submit) (i : ℕ) (x : Fault) (all : Option Fault)
-    → Some x ≡ turns_fault v (signals_behind v.signalled (take i submits)) (layouts_behind v.buffer v.layout (flat_map (λ s. s.cbs) (take i submits))) (turns_at submits i)
+    → Some x ≡ turns_fault v (signals_behind v.signalled (take i submits)) (layouts_by v.buffer v.layout (flat_map (λ s. s.cbs) (take i submits))) (turns_at submits i)
     → from v submits i ≡ all → Some x ≡ all
 submit_breaks v submits i x all e left = ap (λ o. first o (from v submits (i + 1))) e ∙ sym (rest v submits i) ∙ left
 
 pub submit_passes : (v : View) (submits : List Submit) (i : ℕ) (all : Option Fault)
-    → None ≡ turns_fault v (signals_behind v.signalled (take i submits)) (layouts_behind v.buffer v.layout (flat_map (λ s. s.cbs) (take i submits))) (turns_at submits i)
+    → None ≡ turns_fault v (signals_behind v.signalled (take i submits)) (layouts_by v.buffer v.layout (flat_map (λ s. s.cbs) (take i submits))) (turns_at submits i)
     → from v submits i ≡ all → from v submits (i + 1) ≡ all
 submit_passes v submits i all e left = ap (λ o. first o (from v submits (i + 1))) e ∙ sym (rest v submits i) ∙ left
 
 pub submits_end : (v : View) (submits : List Submit) (i : ℕ) (all : Option Fault) → length submits ≤ i → from v submits i ≡ all → None ≡ all
 unfolding turns_fault
 submits_end v submits i all h left =
-    sym (at_drop_all (λ xs. turns_fault v (signals_behind v.signalled (take i submits)) (layouts_behind v.buffer v.layout (flat_map (λ s. s.cbs) (take i submits))) (flat_map turns_of_submit xs)) submits i h) ∙ left
+    sym (at_drop_all (λ xs. turns_fault v (signals_behind v.signalled (take i submits)) (layouts_by v.buffer v.layout (flat_map (λ s. s.cbs) (take i submits))) (flat_map turns_of_submit xs)) submits i h) ∙ left
 
 -- ---- the fence behind all
 
@@ -224,7 +224,7 @@ pub a_fence : (v : View) (submits : List Submit) (fence : ℕ) (a b : Option Fau
     → ((m : ℕ → ℕ) → b ≡ turns_fault v (signals_behind v.signalled submits) m (signal fence ∷ []))
     → first a b ≡ turns_fault v v.signalled v.layout (turns_of submits fence)
 a_fence v submits fence a b is e y =
-    ap (λ o. first o b) e ∙ ap (first (turns_fault v v.signalled v.layout (flat_map turns_of_submit submits))) (y (layouts_behind v.buffer v.layout (executed (flat_map turns_of_submit submits))))
+    ap (λ o. first o b) e ∙ ap (first (turns_fault v v.signalled v.layout (flat_map turns_of_submit submits))) (y (layouts_by v.buffer v.layout (executed (flat_map turns_of_submit submits))))
     ∙ sym (split v v.signalled v.layout (flat_map turns_of_submit submits) (signal fence ∷ []))
     ∙ ap (λ t. turns_fault v v.signalled v.layout (flat_map turns_of_submit submits ++ (if t then [] else signal fence ∷ []))) (sym is)
 

@@ -2,10 +2,8 @@
 use Rattle.std.specs.Prelude.{ℕ, Bool, true, false, List, [], ◌∷◌, flat_map, slice_get}
 use Rattle.std.specs.Option.{option_map_or}
 use Rattle.gfx_types.specs.declared.lists.Submit.{Submit}
-use Rattle.gfx_model.specs.Questions.{Buffer}
-use Rattle.gfx_model.specs.Checks.{Turn, turns_of_submit, but, layouts_after}
+use Rattle.gfx_model.specs.Checks.{Turn, turns_of_submit, but}
 use Rattle.gfx_model.specs.Checks.Turn.{wait, execute, signal}
-use Rattle.gfx_rules.specs.Layouts.{asked_in}
 
 -- what is signalled after these turns
 abbrev pub signals_after : (ℕ → Bool) → List Turn → ℕ → Bool
@@ -17,10 +15,6 @@ signals_after signalled (signal s ∷ ts) = signals_after (but s true signalled)
 -- what is signalled after these submits
 abbrev pub signals_behind : (ℕ → Bool) → List Submit → ℕ → Bool
 signals_behind signalled submits = signals_after signalled (flat_map turns_of_submit submits)
-
--- the layouts after these command buffers
-abbrev pub layouts_behind : (ℕ → Buffer) → (ℕ → ℕ) → List ℕ → ℕ → ℕ
-layouts_behind buffer layout cbs = layouts_after layout (flat_map (asked_in buffer) cbs)
 
 -- the turns of the submit at a place
 abbrev pub turns_at : List Submit → ℕ → List Turn

@@ -1,11 +1,11 @@
 //! The answers that checks read, given by any type.
 
-ghost use Rattle.std.specs.Prelude.{◌≡◌, ◌<◌, length, flat_map, is_some, option_map, slice_get};
+ghost use Rattle.std.specs.Prelude.{◌≡◌, ◌<◌, length, is_some, option_map, slice_get, slice_index};
 ghost use Rattle.gfx_types.specs.declared.lists.Submit.{Submit};
 ghost use Rattle.gfx_model.specs.Views as views;
 ghost use Rattle.gfx_model.specs.Checks as words;
 ghost use Rattle.gfx_objects.specs.Object.{range_of};
-ghost use Rattle.gfx_rules.specs.Layouts.{asked_in, executed_before, cbs_at, cb_at};
+ghost use Rattle.gfx_commands.specs.Layouts.{asked_in, executed_before, cbs_at, layouts_by};
 
 use gfx_objects::MapRange;
 use gfx_types::{Kind, Submit};
@@ -146,6 +146,6 @@ pub trait Answers {
     fn meets_layouts(&self, submits: &[Submit], submit: usize, at: usize) -> bool
         requires submit { submit < length submits.now }
         requires at { at < length (cbs_at submits.now submit) }
-        ensures { let v = view self.now in let cb = cb_at submits.now submit at in
-            result ≡ words.meets (words.layouts_after v.layout (flat_map (asked_in v.buffer) (executed_before submits.now submit at))) (asked_in v.buffer cb) };
+        ensures { let v = view self.now in let cb = slice_index (cbs_at submits.now submit) at in
+            result ≡ words.meets (layouts_by v.buffer v.layout (executed_before submits.now submit at)) (asked_in v.buffer cb) };
 }

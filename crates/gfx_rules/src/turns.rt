@@ -3,8 +3,8 @@
 ghost use Rattle.std.specs.Prelude.{◌≡◌, ◌<◌, Bool, ℕ, length, map, take, flat_map};
 ghost use Rattle.gfx_types.specs.declared.names.Fault.TheVariants.{SignalState};
 ghost use Rattle.gfx_model.specs.Checks as words;
-ghost use Rattle.gfx_rules.specs.Layouts.{cbs_at};
-ghost use Rattle.gfx_rules.specs.Turns.{signals_after, signals_behind, layouts_behind, turns_at};
+ghost use Rattle.gfx_commands.specs.Layouts.{cbs_at, layouts_by};
+ghost use Rattle.gfx_rules.specs.Turns.{signals_after, signals_behind, turns_at};
 
 use crate::answers::Answers;
 use crate::checks::first;
@@ -91,7 +91,7 @@ fn executes_fault<A: Answers>(
     requires submit { submit < length submits.now }
     requires cbs { cbs.now ≡ cbs_at submits.now submit }
     ensures { let v = A.view answers.now in let before = flat_map (λ s. s.cbs) (take submit submits.now) in
-        (signalled : ℕ → Bool) → result ≡ words.turns_fault v signalled (layouts_behind v.buffer v.layout before) (map words.Turn.execute cbs.now) }
+        (signalled : ℕ → Bool) → result ≡ words.turns_fault v signalled (layouts_by v.buffer v.layout before) (map words.Turn.execute cbs.now) }
 {
     'cbs: for (at, cb) in cbs.iter().enumerate() {
         if !answers.is_executable(*cb) {
@@ -108,7 +108,7 @@ fn executes_fault<A: Answers>(
 fn submit_fault<A: Answers>(answers: &A, submits: &[Submit], at: usize) -> Option<Fault>
     requires { at < length submits.now }
     ensures { let v = A.view answers.now in let before = take at submits.now in
-        result ≡ words.turns_fault v (signals_behind v.signalled before) (layouts_behind v.buffer v.layout (flat_map (λ s. s.cbs) before)) (turns_at submits.now at) }
+        result ≡ words.turns_fault v (signals_behind v.signalled before) (layouts_by v.buffer v.layout (flat_map (λ s. s.cbs) before)) (turns_at submits.now at) }
 {
     let submit = &submits[at];
     let before = &submits[..at];

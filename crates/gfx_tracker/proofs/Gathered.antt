@@ -78,7 +78,7 @@ new_is b e =
     let zero : b.flags ≡ 0 = let f = front.1 in grind (arith, nat_tests, f) in
     λ j. record { state = initial_is b.state front.0 j; flags = zero j; commands = none_is b.commands all.1 j }
 
-new_not_kept : (b : Buffer) → is_new b ≡ true → is_kept b.state ≡ false
+pub new_not_kept : (b : Buffer) → is_new b ≡ true → is_kept b.state ≡ false
 new_not_kept b e = ap (λ (b : Buffer). is_kept b.state) (new_is b e)
 
 new_stays : (hit : Bool) (b : Buffer) → is_new b ≡ true → is_new (invalidated hit b) ≡ true

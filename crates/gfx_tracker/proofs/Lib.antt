@@ -3,6 +3,8 @@ pub mod Registered
 pub mod Gathered
 pub mod Next
 pub mod Fetched
+pub mod Seeking
+pub mod Ids
 pub mod Unmoved
 pub mod Recorded
 pub mod Freed

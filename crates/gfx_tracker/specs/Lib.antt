@@ -3,4 +3,5 @@ pub mod Registry
 pub mod Gathered
 pub mod State
 pub mod Taking
+pub mod Sought
 pub mod Items

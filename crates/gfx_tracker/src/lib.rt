@@ -1,9 +1,11 @@
 //! The tracker: what stands after a capture's effects, and which effect may follow.
 #![tactic(auto)]
 
+mod asked;
 mod buffers;
 mod commands;
 mod creations;
+mod details;
 mod each;
 mod ends;
 mod fences;
@@ -13,6 +15,7 @@ mod presents;
 mod queues;
 mod registry;
 mod resources;
+mod sought;
 mod spelled;
 mod state;
 mod swapchains;

@@ -1,6 +1,7 @@
 use Rattle.std.proofs.Common.{◌∙◌, ap, sym, map, flat_map, take}
 use Rattle.gfx_model.specs.Checks as words
-use Rattle.gfx_rules.specs.Turns.{signals_after, signals_behind, layouts_behind}
+use Rattle.gfx_commands.specs.Layouts.{layouts_by}
+use Rattle.gfx_rules.specs.Turns.{signals_after, signals_behind}
 use Rattle.gfx_rules.proofs.Executed.{parts, sits}
 use Rattle.gfx_rules.proofs.turns.submit_fault.Goals as goal
 
@@ -9,7 +10,7 @@ returns g c =
     let v = g.A.Answers.view c.args.answers.now in
     let before = take c.args.at c.args.submits.now in
     let f = signals_behind v.signalled before in
-    let l = layouts_behind v.buffer v.layout (flat_map (λ s. s.cbs) before) in
+    let l = layouts_by v.buffer v.layout (flat_map (λ s. s.cbs) before) in
     let s = c.index-submits-at.result in
     c.first-2.ensures ∙ ap (λ o. words.first o c.signals_fault-signalled.result) c.first.ensures
     ∙ parts v f l s c.waits_fault-waited.result c.executes_fault-executed.result c.signals_fault-signalled.result

@@ -1,0 +1,193 @@
+//! What the checks ask of the state.
+ghost use Rattle.std.specs.Prelude.{◌≡◌};
+ghost use Rattle.gfx_model.specs.Events.{event_of};
+ghost use Rattle.gfx_model.specs.Table.{checks_of};
+ghost use Rattle.gfx_model.specs.Checks.{first_broken};
+ghost use Rattle.gfx_tracker.specs.State.{state_answers};
+
+use crate::details::{
+    flags_in, format_in, height_in, is_bound_in, layout_in, mapped_in, size_in, usage_in,
+    wanted_in, width_in,
+};
+use crate::sought;
+use crate::state::State;
+use gfx_commands::CbState;
+use gfx_objects::MapRange;
+use gfx_rules::Answers;
+use gfx_types::{Effect, Fault, Kind, Submit};
+
+impl Answers for State {
+    ghost view = { state_answers };
+
+    fn is_live(&self, kind: Kind, id: u64) -> bool {
+        self.registry.objects.is_live(kind, id)
+    }
+
+    fn parent_of(&self, id: u64) -> u64 {
+        match self.registry.objects.get(id) {
+            Some(object) => object.parent,
+            None => 0,
+        }
+    }
+
+    fn was_used(&self, id: u64) -> bool {
+        self.registry.objects.was_used(id)
+    }
+
+    fn object_count(&self) -> u32 {
+        self.registry.objects.live()
+    }
+
+    fn live_bytes(&self) -> u64 {
+        self.registry.objects.bytes()
+    }
+
+    fn children(&self, id: u64) -> u32 {
+        self.registry.objects.children(id)
+    }
+
+    fn queue_of(&self, device: u64) -> Option<u64> {
+        sought::queue_of(&self.registry.objects, device)
+    }
+
+    fn has_swapchain(&self, surface: u64) -> bool {
+        sought::has_swapchain(&self.registry.objects, surface)
+    }
+
+    fn fetched_at(&self, swapchain: u64, place: usize) -> Option<u64> {
+        sought::fetched_at(&self.registry.objects, swapchain, place)
+    }
+
+    fn size_of(&self, id: u64) -> u64 {
+        match self.registry.objects.get(id) {
+            Some(object) => size_in(&object.detail),
+            None => 0,
+        }
+    }
+
+    fn usage_of(&self, id: u64) -> u32 {
+        match self.registry.objects.get(id) {
+            Some(object) => usage_in(&object.detail),
+            None => 0,
+        }
+    }
+
+    fn format_at(&self, id: u64) -> u32 {
+        match self.registry.objects.get(id) {
+            Some(object) => format_in(&object.detail),
+            None => 0,
+        }
+    }
+
+    fn width_of(&self, id: u64) -> u32 {
+        match self.registry.objects.get(id) {
+            Some(object) => width_in(&object.detail),
+            None => 0,
+        }
+    }
+
+    fn height_of(&self, id: u64) -> u32 {
+        match self.registry.objects.get(id) {
+            Some(object) => height_in(&object.detail),
+            None => 0,
+        }
+    }
+
+    fn images_in(&self, swapchain: u64) -> u32 {
+        sought::images_of(&self.registry.objects, swapchain)
+    }
+
+    fn flags_of(&self, pool: u64) -> u32 {
+        match self.registry.objects.get(pool) {
+            Some(object) => flags_in(&object.detail),
+            None => 0,
+        }
+    }
+
+    fn mapped(&self, memory: u64) -> Option<MapRange> {
+        match self.registry.objects.get(memory) {
+            Some(object) => mapped_in(&object.detail),
+            None => None,
+        }
+    }
+
+    fn is_bound(&self, id: u64) -> bool {
+        match self.registry.objects.get(id) {
+            Some(object) => is_bound_in(&object.detail),
+            None => false,
+        }
+    }
+
+    fn is_usable(&self, id: u64) -> bool {
+        self.registry.objects.window(id).is_some()
+    }
+
+    fn wanted_by(&self, image: u64) -> u64 {
+        match self.registry.objects.get(image) {
+            Some(object) => wanted_in(&object.detail),
+            None => 0,
+        }
+    }
+
+    fn is_recording(&self, cb: u64) -> bool {
+        matches!(self.recordings.state(cb), CbState::Recording)
+    }
+
+    fn is_executable(&self, cb: u64) -> bool {
+        matches!(self.recordings.state(cb), CbState::Executable)
+    }
+
+    fn is_initial(&self, cb: u64) -> bool {
+        matches!(self.recordings.state(cb), CbState::Initial)
+    }
+
+    fn commands_kept(&self) -> u64 {
+        u64::from(self.recordings.totals().commands)
+    }
+
+    fn bytes_kept(&self) -> u64 {
+        self.recordings.totals().bytes
+    }
+
+    fn is_signalled(&self, id: u64) -> bool {
+        self.registry.signals.status(id)
+    }
+
+    fn is_acquired(&self, swapchain: u64, index: u32) -> bool {
+        self.registry.images.acquired(swapchain, index)
+    }
+
+    fn layout_of(&self, image: u64) -> u32 {
+        match self.registry.objects.get(image) {
+            Some(object) => layout_in(&object.detail),
+            None => 0,
+        }
+    }
+
+    fn next_frame(&self) -> u64 {
+        self.next_frame
+    }
+
+    fn is_empty(&self) -> bool {
+        self.is_empty
+    }
+
+    fn section(&self) -> Option<u64> {
+        self.section
+    }
+
+    fn meets_layouts(&self, submits: &[Submit], submit: usize, at: usize) -> bool {
+        !self
+            .recordings
+            .layout_differs(submits, submit, at, &self.registry.objects)
+    }
+}
+
+impl State {
+    /// The fault of the first check that an effect breaks, where it breaks one.
+    pub(crate) fn fault_of(&self, effect: &Effect<'_>) -> Option<Fault>
+        ensures { result ≡ first_broken (state_answers self.now) (checks_of (event_of effect.now)) }
+    {
+        gfx_rules::fault_of(self, effect)
+    }
+}

@@ -1,0 +1,126 @@
+//! Objects that are sought among the live ones.
+ghost use Rattle.std.specs.Prelude.{◌≡◌, ℕ, ◌++◌, List, true, Some, slice_get, find, IfOk, IfErr};
+ghost use Rattle.gfx_model.specs.Steps as steps;
+ghost use Rattle.gfx_model.specs.Views as view;
+ghost use Rattle.gfx_objects.specs.Object.{made};
+ghost use Rattle.gfx_objects.specs.Objects.{answers};
+
+use crate::details::{has_index, images_in, is_on, is_queue};
+use gfx_objects::{Object, Objects};
+use gfx_types::Kind;
+
+/// What is sought among the live objects.
+#[derive(Clone, Copy)]
+pub(crate) enum Sought {
+    /// The queues of a device.
+    QueueOf(u64),
+    /// The swapchains on a surface.
+    SwapchainOn(u64),
+    /// The images of a swapchain at an index.
+    ImageAt(u64, u32),
+}
+
+impl Sought {
+    ghost use Rattle.gfx_tracker.specs.Sought.{is_sought, sought_in};
+
+    // The kind of all that are sought.
+    fn kind(self) -> Kind
+        ensures { (o : steps.Object) → is_sought self o ≡ true → steps.kind_number (steps.kind_of o.detail) ≡ steps.kind_number result }
+    {
+        match self {
+            Sought::QueueOf(_) => Kind::Queue,
+            Sought::SwapchainOn(_) => Kind::Swapchain,
+            Sought::ImageAt(_, _) => Kind::Image,
+        }
+    }
+
+    // Whether the object is one of those.
+    fn is_met_by(self, object: &Object) -> bool
+        ensures { result ≡ is_sought self (made object.now) }
+    {
+        match self {
+            Sought::QueueOf(device) => object.parent == device && is_queue(&object.detail),
+            Sought::SwapchainOn(surface) => is_on(&object.detail, surface),
+            Sought::ImageAt(swapchain, index) => {
+                object.parent == swapchain && has_index(&object.detail, index)
+            }
+        }
+    }
+
+    // Whether the live object of this id is one of those.
+    fn is_met_at(self, objects: &Objects, id: u64) -> bool
+        ensures { result ≡ view.is_one (answers objects.now) (is_sought self) id }
+    {
+        match objects.get(id) {
+            Some(object) => self.is_met_by(object),
+            None => false,
+        }
+    }
+
+    /// The id at a place among those that are live, by rising ids; where there are too few, what is left of the place
+    /// behind them all.
+    pub(crate) fn at(self, objects: &Objects, place: usize) -> Result<u64, usize>
+        ensures found { IfOk result (λ id. (more : List ℕ) → slice_get (sought_in (answers objects.now) self ++ more) place ≡ Some id) }
+        ensures passed { IfErr result (λ left. (more : List ℕ) → slice_get (sought_in (answers objects.now) self ++ more) place ≡ slice_get more left) }
+    {
+        let kind = self.kind();
+        let mut left = place;
+        let mut after = 0;
+        'ids: while let Some(id) = objects.next(kind, after) {
+            if self.is_met_at(objects, id) {
+                if left == 0 {
+                    return Ok(id);
+                }
+                left -= 1;
+            }
+            after = id;
+        }
+        Err(left)
+    }
+
+    /// The least live id of those.
+    pub(crate) fn first(self, objects: &Objects) -> Option<u64>
+        ensures { result ≡ find (view.is_one (answers objects.now) (is_sought self)) (answers objects.now).ids }
+    {
+        self.at(objects, 0).ok()
+    }
+}
+
+/// The queue of a device, where it was fetched.
+pub(crate) fn queue_of(objects: &Objects, device: u64) -> Option<u64>
+    ensures { result ≡ view.queue_of (answers objects.now) device }
+{
+    Sought::QueueOf(device).first(objects)
+}
+
+/// Whether a live swapchain was created on this surface.
+pub(crate) fn has_swapchain(objects: &Objects, surface: u64) -> bool
+    ensures { result ≡ view.has_swapchain (answers objects.now) surface }
+{
+    Sought::SwapchainOn(surface).first(objects).is_some()
+}
+
+/// How many images a live swapchain has, 0 for any other id.
+pub(crate) fn images_of(objects: &Objects, swapchain: u64) -> u32
+    ensures { result ≡ view.images_in (answers objects.now) swapchain }
+{
+    match objects.get(swapchain) {
+        Some(object) => images_in(&object.detail),
+        None => 0,
+    }
+}
+
+/// The fetched image of a swapchain at a place.
+pub(crate) fn fetched_at(objects: &Objects, swapchain: u64, place: usize) -> Option<u64>
+    ensures { result ≡ slice_get (view.fetched (answers objects.now) swapchain) place }
+{
+    let images = images_of(objects, swapchain);
+    let mut left = place;
+    'indices: for index in 0..images {
+        match Sought::ImageAt(swapchain, index).at(objects, left) {
+            Ok(id) => return Some(id),
+            Err(behind) => left = behind,
+        }
+    }
+    None
+}
