@@ -135,18 +135,22 @@ fn mixed_regions_fit(regions: &[MixedRegion])
     }
 }
 
+/// The numbers of a barrier fit their types.
 fn barrier_fits(_barrier: Barrier)
     ensures { AllByRecursion FieldFits (barrier_fields _barrier) }
 {}
 
+/// The numbers of a region between buffers fit their types.
 fn buffer_region_fits(_region: BufferRegion)
     ensures { AllByRecursion FieldFits (buffer_region_fields _region) }
 {}
 
+/// The numbers of a region between images fit their types.
 fn image_region_fits(_region: ImageRegion)
     ensures { AllByRecursion FieldFits (image_region_fields _region) }
 {}
 
+/// The numbers of a region between a buffer and an image fit their types.
 fn mixed_region_fits(_region: MixedRegion)
     ensures { AllByRecursion FieldFits (mixed_region_fields _region) }
 {}
