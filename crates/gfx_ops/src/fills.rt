@@ -38,8 +38,8 @@ pub(crate) fn fill_buffer(
     })
 }
 
-// The bytes of a fill.
-fn fill_size(buffer_size: u64, offset: u64, size: u64) -> u64
+/// The bytes of a fill.
+pub(crate) fn fill_size(buffer_size: u64, offset: u64, size: u64) -> u64
     ensures { result ≡ effects.fill_size buffer_size offset size }
 {
     if size == u64::MAX {

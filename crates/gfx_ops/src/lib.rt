@@ -6,6 +6,8 @@ mod copies;
 mod fills;
 mod region;
 mod shape;
+#[cfg(test)]
+mod tests;
 
 ghost use Rattle.gfx_ops.specs.Laws.{OperationsAreChanges};
 
