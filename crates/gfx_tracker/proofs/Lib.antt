@@ -11,3 +11,4 @@ pub mod Freed
 pub mod Allocated
 pub mod ReadItems
 pub mod Presented
+pub mod Marking

@@ -1,6 +1,10 @@
 //! The rows of metadata: bytes of memory, images, acquired marks and signals of semaphores.
-ghost use Rattle.std.specs.Prelude.{◌≡◌, ◌++◌, ◌∷◌, [], OnOk, OnErr};
-ghost use Rattle.gfx_model.specs.Events.Event.{FillMemory, InitImage, SetSemaphoreState};
+ghost use Rattle.std.specs.Prelude.{◌≡◌, ◌==◌, ◌<◌, ◌++◌, ◌∷◌, [], OnOk, OnErr, true, if◌then◌else◌};
+ghost use Rattle.gfx_types.specs.declared.names.Kind.TheVariants as kind;
+ghost use Rattle.gfx_model.specs.Events.Event.{FillMemory, InitImage, SetSemaphoreState, SetSwapchainState};
+ghost use Rattle.gfx_model.specs.Steps.Step.{acquires, gives_back};
+ghost use Rattle.gfx_model.specs.Views.{is_live, images_in};
+ghost use Rattle.gfx_model.specs.After.{after};
 ghost use Rattle.gfx_tracker.specs.State.{state_answers};
 ghost use Rattle.gfx_tracker.specs.Taking.{after_event, IsNext};
 
@@ -31,4 +35,28 @@ pub(crate) fn init_image(state: &mut State, image: u64, layout: u32, _bytes: &[u
     ensures { state_answers state.new ≡ after_event (state_answers state.old) (InitImage image layout _bytes.now) }
 {
     state.set_layout(image, layout);
+}
+
+/// The row of SetSwapchainState: each image is acquired or given back, by its mark.
+pub(crate) fn set_swapchain_state(state: &mut State, swapchain: u64, acquired: &[u32])
+    requires { IsNext (state_answers state.old) (SetSwapchainState swapchain acquired.now) }
+    ensures { state_answers state.new ≡ after_event (state_answers state.old) (SetSwapchainState swapchain acquired.now) }
+{
+    state.take();
+    'marks: for index in 0..acquired.len() {
+        set_mark(state, swapchain, index as u32, acquired[index]);
+    }
+}
+
+// Acquires an image of a live swapchain, or gives it back.
+fn set_mark(state: &mut State, swapchain: u64, index: u32, mark: u32)
+    requires live { is_live (state_answers state.old) kind.Swapchain swapchain ≡ true }
+    requires index { index < images_in (state_answers state.old) swapchain }
+    ensures { state_answers state.new ≡ after (state_answers state.old) (if mark == 1 then acquires swapchain index else gives_back swapchain index) }
+{
+    if mark == 1 {
+        state.acquire(swapchain, index);
+    } else {
+        state.give_back(swapchain, index);
+    }
 }
