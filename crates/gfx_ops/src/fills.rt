@@ -1,5 +1,6 @@
 //! Fills, updates and clears, as operations.
-ghost use Rattle.std.specs.Prelude.{◌≡◌, ◌++◌, OnOk, OnErr};
+ghost use Rattle.std.specs.Prelude.{◌≡◌, ◌+◌, ◌<◌, ◌^◌, ◌++◌, OnOk, OnErr};
+ghost use Rattle.gfx_types.specs.declared.op.Op.TheVariants as op;
 ghost use Rattle.gfx_model.specs.Events.Event.{CmdFillBuffer, CmdUpdateBuffer, CmdClearColorImage};
 ghost use Rattle.gfx_model.specs.Views as views;
 ghost use Rattle.gfx_model.specs.Effects as effects;
@@ -8,7 +9,7 @@ ghost use Rattle.gfx_objects.specs.Objects.{answers};
 ghost use Rattle.gfx_ops.specs.Operations.{ops_of_command};
 ghost use Rattle.gfx_ops.specs.Laws.{WindowsEnd};
 
-use gfx_objects::{Detail, Objects};
+use gfx_objects::{Detail, Objects, Window};
 use gfx_types::{Op, OpList, Piece, WantMemory};
 use std::alloc::Global;
 
@@ -30,16 +31,24 @@ pub(crate) fn fill_buffer(
     let Some(window) = objects.window(buffer) else {
         return Ok(());
     };
-    ops.push(Op::Fill {
+    ops.push(fill_op(window, offset, size, word))
+}
+
+/// A fill in the window of a buffer.
+pub(crate) fn fill_op(window: Window, offset: u64, size: u64, word: u32) -> Op
+    requires { window.offset + offset < 2 ^ 64 }
+    ensures { result ≡ op.Fill window.place (window.offset + offset) (effects.fill_size window.length offset size) word }
+{
+    Op::Fill {
         place: window.place,
         offset: window.offset + offset,
         length: fill_size(window.length, offset, size),
         word,
-    })
+    }
 }
 
-/// The bytes of a fill.
-pub(crate) fn fill_size(buffer_size: u64, offset: u64, size: u64) -> u64
+// The bytes of a fill.
+fn fill_size(buffer_size: u64, offset: u64, size: u64) -> u64
     ensures { result ≡ effects.fill_size buffer_size offset size }
 {
     if size == u64::MAX {
@@ -70,11 +79,19 @@ pub(crate) fn update_buffer(
     let Ok(bytes) = Vec::from_slice(alloc, bytes) else {
         return Err(WantMemory);
     };
-    ops.push(Op::Put {
+    ops.push(update_op(window, offset, Piece::of(bytes)))
+}
+
+/// An update in the window of a buffer.
+pub(crate) fn update_op(window: Window, from: u64, bytes: Piece) -> Op
+    requires { window.offset + from < 2 ^ 64 }
+    ensures { result ≡ op.Put window.place (window.offset + from) bytes }
+{
+    Op::Put {
         place: window.place,
-        offset: window.offset + offset,
-        bytes: Piece::of(bytes),
-    })
+        offset: window.offset + from,
+        bytes,
+    }
 }
 
 /// A clear of an image: one fill of all its bytes.

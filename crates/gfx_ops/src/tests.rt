@@ -1,13 +1,13 @@
 //! What each command does. The wanted numbers were worked out by hand from the rules of a capture.
-ghost use Rattle.std.specs.Prelude.{◌≤◌, ◌^◌, IsTrue};
+ghost use Rattle.std.specs.Prelude.{◌<◌, ◌≤◌, ◌^◌, IsTrue};
 ghost use Rattle.gfx_model.specs.Views.{detail_bytes};
 ghost use Rattle.gfx_objects.specs.Object.{detail_of, is_within, IsNew};
 
 use crate::Shape;
-use crate::fills::{clear_image, fill_size};
+use crate::fills::{clear_image, fill_op, update_op};
 use crate::region::{BufferCopies, Downloads, ImageCopies, Layouts, MakesOp, Uploads, append_each};
 use gfx_objects::{Detail, Objects, Window};
-use gfx_types::{Barrier, BufferRegion, ImageRegion, Kind, MixedRegion, Op, OpList, Place};
+use gfx_types::{Barrier, BufferRegion, ImageRegion, Kind, MixedRegion, Op, OpList, Piece, Place};
 use std::alloc::Global;
 use std::test::Fail;
 
@@ -246,16 +246,56 @@ fn barriers_set_layouts_in_order(rt: HostRuntime) -> Result<(), Fail> {
     Ok(())
 }
 
+// The place, the offset, the length and the word of a fill.
+fn filled(op: &Op) -> Option<(Place, u64, u64, u32)> {
+    match op {
+        Op::Fill {
+            place,
+            offset,
+            length,
+            word,
+        } => Some((*place, *offset, *length, *word)),
+        _ => None,
+    }
+}
+
+// The fill of a buffer of 30 bytes at 32 in memory 6.
+fn fill(offset: u64, size: u64) -> Option<(Place, u64, u64, u32)>
+    requires { offset < 30 }
+{
+    let (place, length) = (Place::Memory(6), 30);
+    let window = Window {
+        place,
+        offset: 32,
+        length,
+    };
+    filled(&fill_op(window, offset, size, 9))
+}
+
 #[test]
 fn the_whole_rest_of_a_buffer_is_whole_words(rt: HostRuntime) {
-    let whole = 18446744073709551615u64;
-    for (offset, size, want) in [(4, whole, 24), (28, whole, 0), (0, whole, 28), (4, 8, 8)] {
-        assert_eq!(rt;
-            fill_size(30, offset, size),
-            want,
-            "{size} bytes from {offset} on"
-        );
+    let (whole, place) = (18446744073709551615u64, Place::Memory(6));
+    assert_eq!(rt; fill(4, whole), Some((place, 36, 24, 9)));
+    assert_eq!(rt; fill(28, whole), Some((place, 60, 0, 9)));
+    assert_eq!(rt; fill(0, whole), Some((place, 32, 28, 9)));
+    assert_eq!(rt; fill(4, 8), Some((place, 36, 8, 9)));
+}
+
+#[test]
+fn an_update_writes_its_bytes(rt: HostRuntime) -> Result<(), Fail> {
+    let given = Vec::from_slice(rt.alloc(), &[1, 2, 3, 4])?;
+    match update_op(BUFFER, 8, Piece::of(given)) {
+        Op::Put {
+            place,
+            offset,
+            bytes,
+        } => {
+            assert_eq!(rt; (place, offset), (Place::Memory(6), 40));
+            assert_eq!(rt; bytes.items(), [1, 2, 3, 4].as_slice());
+        }
+        _ => return Err("no bytes".into()),
     }
+    Ok(())
 }
 
 // Creates an object where its id is new and there is room for it.
@@ -292,19 +332,6 @@ fn with_image(alloc: Global, format: u32) -> Result<Objects, Fail> {
     }
     objects.bind(4, 3, 16);
     Ok(objects)
-}
-
-// The place, the offset, the length and the word of a fill.
-fn filled(op: &Op) -> Option<(Place, u64, u64, u32)> {
-    match op {
-        Op::Fill {
-            place,
-            offset,
-            length,
-            word,
-        } => Some((*place, *offset, *length, *word)),
-        _ => None,
-    }
 }
 
 #[test]

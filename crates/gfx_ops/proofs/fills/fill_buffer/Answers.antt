@@ -1,4 +1,4 @@
-use Rattle.std.proofs.Common.{◌≡◌, ◌<◌, ◌≤◌, ◌+◌, ◌++◌, ◌∙◌, ◌^◌, ap, subst, sym, OnOk, arith}
+use Rattle.std.proofs.Common.{◌≡◌, ◌<◌, ◌≤◌, ◌+◌, ◌++◌, ◌∷◌, [], ◌∙◌, ◌^◌, ap, subst, sym, OnOk, arith}
 use Rattle.gfx_model.specs.Effects.{fill_size}
 use Rattle.gfx_model.specs.Views.{size_of}
 use Rattle.gfx_objects.specs.Object.{window_of}
@@ -10,8 +10,8 @@ use Rattle.gfx_ops.proofs.fills.fill_buffer.Goals as goal
 pub returns-in_default-clause-ok : goal.returns-in_default-clause-ok
 returns-in_default-clause-ok c = unchanged _ _ (nothing_filled _ _ _ _ _ _ c.in_default.ensures)
 
-pub overflow_add-window : goal.overflow_add-window
-overflow_add-window c =
+pub fill_op-requires : goal.fill_op-requires
+fill_op-requires c =
     let v = answers c.args.objects.now in
     let w = window_of c.in-Some.window in
     let near : size_of v c.args.buffer ≤ 2 ^ 28 = near_size v c.requires.windows c.args.buffer w c.in-Some.ensures in
@@ -24,6 +24,7 @@ returns-clause-ok c =
     let v = answers c.args.objects.now in
     let w = window_of c.in-Some.window in
     subst (λ more. OnOk c.push.result (c.push.new.self ≡ c.args.ops.now ++ more))
-    (fill_ops v c.args._cb c.args.buffer c.args.offset c.args.size c.args.word c.fill_size.result w c.in-Some.ensures
-    (c.fill_size.ensures ∙ ap (λ n. fill_size n c.args.offset c.args.size) (window_length v c.args.buffer w (sym c.in-Some.ensures))))
+    (ap (λ o. o ∷ []) c.fill_op.ensures
+    ∙ fill_ops v c.args._cb c.args.buffer c.args.offset c.args.size c.args.word (fill_size w.length c.args.offset c.args.size) w c.in-Some.ensures
+    (ap (λ n. fill_size n c.args.offset c.args.size) (window_length v c.args.buffer w (sym c.in-Some.ensures))))
     c.push.ensures.ok

@@ -10,8 +10,8 @@ use Rattle.gfx_ops.proofs.fills.update_buffer.Goals as goal
 pub returns-in_default-clause-ok : goal.returns-in_default-clause-ok
 returns-in_default-clause-ok c = unchanged _ _ (nothing_updated _ _ _ _ _ c.in_default.ensures)
 
-pub overflow_add-window : goal.overflow_add-window
-overflow_add-window c =
+pub update_op-requires : goal.update_op-requires
+update_op-requires c =
     let v = answers c.args.objects.now in
     let w = window_of c.in-Some.window in
     let near : size_of v c.args.buffer ≤ 2 ^ 28 = near_size v c.requires.windows c.args.buffer w c.in-Some.ensures in
@@ -24,6 +24,7 @@ returns-clause-ok c =
     let v = answers c.args.objects.now in
     let w = window_of c.in-Some.window in
     subst (λ more. OnOk c.push.result (c.push.new.self ≡ c.args.ops.now ++ more))
-    (ap (λ bytes. op.Put w.place (w.offset + c.args.offset) bytes ∷ []) (c.of.ensures ∙ c.in-Ok.ensures.items)
+    (ap (λ o. o ∷ []) c.update_op.ensures
+    ∙ ap (λ bytes. op.Put w.place (w.offset + c.args.offset) bytes ∷ []) (c.of.ensures ∙ c.in-Ok.ensures.items)
     ∙ update_ops v c.args._cb c.args.buffer c.args.offset c.args.bytes.now w c.in-Some.ensures)
     c.push.ensures.ok
