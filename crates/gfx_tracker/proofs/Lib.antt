@@ -12,3 +12,4 @@ pub mod Allocated
 pub mod ReadItems
 pub mod Presented
 pub mod Marking
+pub mod Fetching

@@ -9,7 +9,9 @@ use Rattle.gfx_types.specs.declared.names.Kind.TheVariants as kind
 use Rattle.gfx_types.specs.Names.{format_of}
 use Rattle.gfx_model.specs.Events.Event.{SetSwapchainState}
 use Rattle.gfx_model.specs.Spelling.{id_of}
-use Rattle.gfx_model.specs.Steps.{Step, Object, Detail}
+use Rattle.gfx_model.specs.Steps.{Step, Object, Detail, kind_of, kind_number}
+use Rattle.gfx_model.specs.Questions.{passes}
+use Rattle.std.proofs.lemmas.Bool.Decides.{nat_tests}
 use Rattle.gfx_model.specs.Steps.Step.{acquires, gives_back}
 use Rattle.gfx_model.specs.Steps.Detail.{a_swapchain}
 use Rattle.gfx_model.specs.Views.{View, is_live, images_in, detail_images}
@@ -54,7 +56,7 @@ pub record MarkFacts (v : View) (swapchain : ℕ) (acquired : List ℕ) : Type 0
   pub each : length acquired ≡ images_in v swapchain
   pub few : length acquired ≤ 16
 
-few_images : (v : View) (swapchain : ℕ) → IsLawful v [] → images_in v swapchain ≤ 16
+pub few_images : (v : View) (swapchain : ℕ) → IsLawful v [] → images_in v swapchain ≤ 16
 few_images v swapchain h = by (v.live swapchain) refl
   where
     at : (d : Detail) → is_allowed d ≡ true → detail_images d ≤ 16
@@ -66,6 +68,24 @@ few_images v swapchain h = by (v.live swapchain) refl
     by : (o : Option Object) → v.live swapchain ≡ o → option_map_or (λ o. detail_images o.detail) o 0 ≤ 16
     by None e = omega arith
     by (Some o) e = at o.detail ((h.objects).allowed swapchain o e)
+
+-- a live swapchain has an image
+pub some_images : (v : View) (swapchain : ℕ) → is_live v kind.Swapchain swapchain ≡ true → IsLawful v [] → 1 ≤ images_in v swapchain
+some_images v swapchain live h = by (v.live swapchain) refl live
+  where
+    at : (d : Detail) → (kind_number (kind_of d) == 12) ≡ true → is_allowed d ≡ true → 1 ≤ detail_images d
+    at (a_swapchain surface images format width height usage) k e =
+        let all = (and_parts (is_positive images && is_positive width && is_positive height && is_positive usage && is_some (format_of format)) (nat_le images 16 && nat_le width 4096 && nat_le height 4096) e).0 in
+        let four = (and_parts (is_positive images && is_positive width && is_positive height && is_positive usage) (is_some (format_of format)) all).0 in
+        let three = (and_parts (is_positive images && is_positive width && is_positive height) (is_positive usage) four).0 in
+        let two = (and_parts (is_positive images && is_positive width) (is_positive height) three).0 in
+        let positive = (and_parts (is_positive images) (is_positive width) two).0 in
+        grind (arith, nat_tests, positive)
+    at _ k e = absurd cc
+
+    by : (o : Option Object) → v.live swapchain ≡ o → passes (λ o. kind_number (kind_of o.detail) == 12) o ≡ true → 1 ≤ option_map_or (λ o. detail_images o.detail) o 0
+    by None e k = absurd cc
+    by (Some o) e k = at o.detail k ((h.objects).allowed swapchain o e)
 
 pub mark_facts : (v : View) (swapchain : ℕ) (acquired : List ℕ) → IsNext v (SetSwapchainState swapchain acquired) → MarkFacts v swapchain acquired
 unfolding place_of row_of id_of broken

@@ -57,14 +57,14 @@ after_none v e is = ap (fold after (after v taken)) (sym is)
 
 -- ---- a creation
 
-allowed_within : (d : Detail) → is_allowed d ≡ true → is_within d ≡ true
+pub allowed_within : (d : Detail) → is_allowed d ≡ true → is_within d ≡ true
 allowed_within (an_image format width height usage index) e =
     (and_parts (is_some (format_of format) && is_positive width && is_positive height && is_positive usage) (nat_le width 4096 && nat_le height 4096) e).1
 allowed_within (a_swapchain surface images format width height usage) e =
     (and_parts (is_positive images && is_positive width && is_positive height && is_positive usage && is_some (format_of format)) (nat_le images 16 && nat_le width 4096 && nat_le height 4096) e).1
 allowed_within _ e = refl
 
-bytes_of_room : (v : View) (d : Detail) → live_bytes v ≤ 2 ^ 28 → HasBytes v d → live_bytes v + detail_bytes d ≤ 2 ^ 28
+pub bytes_of_room : (v : View) (d : Detail) → live_bytes v ≤ 2 ^ 28 → HasBytes v d → live_bytes v + detail_bytes d ≤ 2 ^ 28
 bytes_of_room v (a_memory size) few room = room
 bytes_of_room v (a_swapchain surface images format width height usage) few room = room
 bytes_of_room v _ few room = omega arith

@@ -104,6 +104,16 @@ pub(crate) fn images_in(detail: &Detail) -> u32
     }
 }
 
+/// The usage of a swapchain's images.
+pub(crate) fn image_usage_in(detail: &Detail) -> u32
+    ensures { result ≡ view.detail_image_usage (object.detail_of detail.now) }
+{
+    match *detail {
+        Detail::Swapchain { usage, .. } => usage,
+        _ => 0,
+    }
+}
+
 /// The flags of a pool.
 pub(crate) fn flags_in(detail: &Detail) -> u32
     ensures { result ≡ view.detail_flags (object.detail_of detail.now) }
