@@ -12,7 +12,7 @@ use Rattle.gfx_device.specs.Rows.{copied, AreWithin}
 range_behind : (s : List ℕ) (at n m : ℕ) → slice_range s (at + n) (at + n + m) ≡ slice_range (drop at s) n (n + m)
 range_behind s at n m =
     ap (λ k. take k (drop (at + n) s)) (let e : at + n + m - (at + n) ≡ n + m - n = omega arith in e)
-    ∙ ap (take (n + m - n)) (sym (drop-drop n at s) )
+    ∙ ap (take (n + m - n)) (sym (drop-drop n at s))
 
 -- an overwrite pastes all of the new
 overwrite_is : (xs : List ℕ) (at : ℕ) (new : List ℕ) → overwrite xs at new ≡ paste xs at new (length new)
@@ -29,10 +29,10 @@ rows_joined c source t (suc k) to from inside start =
     let here = copied c (λ here. source) k t in
     let is : here ≡ paste t c.to_offset rest n = rows_joined c source t k to from (omega arith) start in
     let newest =
-        ap (λ z. overwrite here (c.to_offset + k * z) (slice_range source (c.from_offset + k * c.from_step) (c.from_offset + k * c.from_step + c.length))) to
-        ∙ ap (λ z. overwrite here (c.to_offset + n) (slice_range source (c.from_offset + k * z) (c.from_offset + k * z + c.length))) from
-        ∙ ap (overwrite here (c.to_offset + n)) (range_behind source c.from_offset n c.length)
-        ∙ overwrite_is here (c.to_offset + n) (slice_range rest n (n + c.length)) in
+    ap (λ z. overwrite here (c.to_offset + k * z) (slice_range source (c.from_offset + k * c.from_step) (c.from_offset + k * c.from_step + c.length))) to
+    ∙ ap (λ z. overwrite here (c.to_offset + n) (slice_range source (c.from_offset + k * z) (c.from_offset + k * z + c.length))) from
+    ∙ ap (overwrite here (c.to_offset + n)) (range_behind source c.from_offset n c.length)
+    ∙ overwrite_is here (c.to_offset + n) (slice_range rest n (n + c.length)) in
     write_step t c.to_offset rest n c.length here (copied c (λ here. source) (suc k) t) room start is newest ∙ ap (paste t c.to_offset rest) (sym next)
 
 -- the last of some rows ends where all of them end

@@ -93,4 +93,4 @@ mark_facts v swapchain acquired next =
     let all = all_pass v (checks_of (SetSwapchainState swapchain acquired)) next.passes in
     let each = eqb-true (length acquired) (images_in v swapchain) (unless_none _ _ all.1.1.0) in
     let few = ∥∥₁_elim next.lawful (hlevel props) (few_images v swapchain) in
-    record { live = is_live_by v kind.Swapchain swapchain all.1.0; each = each; few = omega arith; }
+    record { live = is_live_by v kind.Swapchain swapchain all.1.0; each = each; few = omega arith }

@@ -17,4 +17,4 @@ returns-clause-ok c =
     let source_end = rows_end (length c.args.source.now) c.args.copy.from_offset c.args.copy.from_step c.args.copy.length c.args.copy.rows c.requires.some c.requires.from_step c.requires.from in
     let target_end = rows_end (length c.args.target.now) c.args.copy.to_offset c.args.copy.to_step c.args.copy.length c.args.copy.rows c.requires.some c.requires.to_step c.requires.to in
     on_ok_weaker c.copy_from.result
-        (λ is. is ∙ joined_whole c.args.copy c.args.source.now c.args.target.now c.requires.to_step c.requires.from_step source_end (omega arith)) c.copy_from.ensures.ok
+    (λ is. is ∙ joined_whole c.args.copy c.args.source.now c.args.target.now c.requires.to_step c.requires.from_step source_end (omega arith)) c.copy_from.ensures.ok

@@ -28,7 +28,7 @@ overflow_cast-images c =
 pub images-init : goal.images-init
 images-init c =
     let room = c.in_ok-reserve.ensures.ok in
-    record { steps = c.in_ok-reserve.ensures.same; spare = omega (arith, room); }
+    record { steps = c.in_ok-reserve.ensures.same; spare = omega (arith, room) }
 
 pub overflow_cast-detail : goal.overflow_cast-detail
 overflow_cast-detail c =
