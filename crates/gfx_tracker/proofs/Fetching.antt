@@ -1,10 +1,9 @@
 -- Images of a swapchain that are fetched one after another: each may be created at its turn.
-use Rattle.std.proofs.Common.{◌≡◌, ℕ, zero, suc, ◌+◌, ◌<◌, ◌≤◌, true, false, List, [], ◌∷◌, length, take, get_or, Option, Some, None, is_some, refl, ap, sym, subst, ◌∙◌, arith}
+use Rattle.std.proofs.Common.{◌≡◌, ℕ, ◌+◌, ◌<◌, ◌≤◌, Bool, true, false, List, [], ◌∷◌, length, take, get_or, Option, Some, None, is_some, refl, ap, sym, subst, ◌∙◌, arith}
 use Rattle.std.specs.Prelude.{fold, slice_get}
 use Rattle.std.proofs.Math.Logic.{∥∥₁_elim}
 use Rattle.std.proofs.Props.{props}
 use Rattle.std.proofs.lemmas.Bool.{eqb-true}
-use Rattle.std.proofs.lemmas.Bool.Decides.{nat_tests}
 use Rattle.gfx_types.specs.declared.names.Kind.TheVariants as kind
 use Rattle.gfx_model.specs.Events.Event.{GetSwapchainImagesKHR}
 use Rattle.gfx_model.specs.Spelling.{id_of}
@@ -18,19 +17,14 @@ use Rattle.gfx_model.specs.Effects.{effect_of, fetches, first_fetch}
 use Rattle.gfx_model.specs.After.{after}
 use Rattle.gfx_model.proofs.Covered.{unless_none, first_none}
 use Rattle.gfx_laws.specs.Lawful.{IsLawful}
-use Rattle.gfx_laws.proofs.Ready.{Ready, HasRoom, AllReady, AllRoom}
-use Rattle.gfx_laws.proofs.LawfulSteps.{lawful_after}
+use Rattle.gfx_laws.proofs.Ready.{AllReady, AllRoom}
 use Rattle.gfx_laws.proofs.NewObjects.{all_pass}
 use Rattle.gfx_laws.proofs.EventReady.{event_ready}
 use Rattle.gfx_laws.proofs.EventRoom.{event_room}
 use Rattle.gfx_tracker.specs.Taking.{IsNext, MayCreate, after_event}
-use Rattle.gfx_tracker.proofs.Next.{unused_dead, allowed_within, bytes_of_room, after_steps, is_live_by}
+use Rattle.gfx_tracker.proofs.Next.{after_steps, is_live_by}
+use Rattle.gfx_tracker.proofs.Created.{numbered, AllMay, may_at, may_taken}
 use Rattle.gfx_tracker.proofs.Marking.{few_images, some_images}
-
--- objects of one parent, each with the parameters of its number
-abbrev pub numbered : (ℕ → Detail) → ℕ → ℕ → List ℕ → List Step
-numbered d parent k [] = []
-numbered d parent k (x ∷ xs) = creates x parent (d k) ∷ numbered d parent (k + 1) xs
 
 -- the parameters of a swapchain's image
 abbrev pub image_of : View → ℕ → ℕ → Detail
@@ -39,58 +33,6 @@ image_of v swapchain k = an_image (format_at v swapchain) (width_of v swapchain)
 fetches_numbered : (v : View) (swapchain k : ℕ) (xs : List ℕ) → fetches v swapchain k xs ≡ numbered (image_of v swapchain) swapchain k xs
 fetches_numbered v swapchain k [] = refl
 fetches_numbered v swapchain k (x ∷ xs) = ap (λ ss. creates x swapchain (image_of v swapchain k) ∷ ss) (fetches_numbered v swapchain (k + 1) xs)
-
-pub numbered_next : (d : ℕ → Detail) (v : View) (parent k : ℕ) (xs : List ℕ) (i : ℕ) → i < length xs →
-    after (fold after v (numbered d parent k (take i xs))) (creates (get_or xs i 0) parent (d (k + i))) ≡ fold after v (numbered d parent k (take (suc i) xs))
-numbered_next d v parent k [] i below = absurd (omega arith)
-numbered_next d v parent k (x ∷ xs) zero below = ap (λ n. after v (creates x parent (d n))) (let e : k + 0 ≡ k = omega arith in e)
-numbered_next d v parent k (x ∷ xs) (suc i) below =
-    let w = after v (creates x parent (d k)) in
-    ap (λ n. after (fold after w (numbered d parent (k + 1) (take i xs))) (creates (get_or xs i 0) parent (d n))) (let e : k + suc i ≡ k + 1 + i = omega arith in e)
-    ∙ numbered_next d w parent (k + 1) xs i (omega arith)
-
--- each of these may be created when its turn comes
-abbrev pub AllMay : (ℕ → Detail) → View → ℕ → ℕ → List ℕ → Type 0
-AllMay d v parent k [] = Unit {0}
-AllMay d v parent k (x ∷ xs) = MayCreate v x (d k) × AllMay d (after v (creates x parent (d k))) parent (k + 1) xs
-
-may_at : (d : ℕ → Detail) (v : View) (parent k : ℕ) (xs : List ℕ) (i : ℕ) → i < length xs → AllMay d v parent k xs → MayCreate (fold after v (numbered d parent k (take i xs))) (get_or xs i 0) (d (k + i))
-may_at d v parent k [] i below all = absurd (omega arith)
-may_at d v parent k (x ∷ xs) zero below all = subst (λ n. MayCreate v x (d n)) (let e : k ≡ k + 0 = omega arith in e) all.0
-may_at d v parent k (x ∷ xs) (suc i) below all =
-    let w = after v (creates x parent (d k)) in
-    subst (λ n. MayCreate (fold after w (numbered d parent (k + 1) (take i xs))) (get_or xs i 0) (d n)) (let e : k + 1 + i ≡ k + suc i = omega arith in e)
-    (may_at d w parent (k + 1) xs i (omega arith) all.1)
-
-may_one : (v : View) (x p : ℕ) (d : Detail) → IsLawful v [] → Ready v (creates x p d) → HasRoom v (creates x p d) → MayCreate v x d
-may_one v x p d h ready room =
-    let positive = ready.positive in
-    record {
-      not_zero = grind (arith, nat_tests, positive);
-      unused = ready.unused;
-      fresh = unused_dead v h x ready.unused;
-      within = allowed_within d ready.allowed;
-      room = room.0;
-      bytes = bytes_of_room v d (h.limits).bytes room.1;
-    }
-
-may_each : (d : ℕ → Detail) (v : View) (parent k : ℕ) (xs : List ℕ) → IsLawful v [] → AllReady v (numbered d parent k xs) → AllRoom v (numbered d parent k xs) → AllMay d v parent k xs
-may_each d v parent k [] h ready room = tt
-may_each d v parent k (x ∷ xs) h ready room = (
-  may_one v x parent (d k) h ready.0 room.0,
-  may_each d (after v (creates x parent (d k))) parent (k + 1) xs (lawful_after v (creates x parent (d k)) [] h ready.0 room.0) ready.1 room.1,
-)
-
--- that an effect is taken readies no creation, and gives no room
-ready_before : (d : ℕ → Detail) (v : View) (parent k : ℕ) (xs : List ℕ) → AllReady (after v taken) (numbered d parent k xs) → AllReady v (numbered d parent k xs)
-unfolding after
-ready_before d v parent k [] a = tt
-ready_before d v parent k (x ∷ xs) a = a
-
-room_before : (d : ℕ → Detail) (v : View) (parent k : ℕ) (xs : List ℕ) → AllRoom (after v taken) (numbered d parent k xs) → AllRoom v (numbered d parent k xs)
-unfolding after
-room_before d v parent k [] a = tt
-room_before d v parent k (x ∷ xs) a = a
 
 -- ---- what the checks of a first fetch say
 
@@ -107,7 +49,7 @@ may_by v device swapchain ids pass none h =
     let steps = fetch_steps v swapchain ids in
     let ready : AllReady v (taken ∷ steps) = subst (λ ss. AllReady v (taken ∷ ss)) (first_steps v device swapchain ids none) (event_ready v [] h e pass) in
     let room : AllRoom v (taken ∷ steps) = subst (λ ss. AllRoom v (taken ∷ ss)) (first_steps v device swapchain ids none) (event_room v e pass) in
-    may_each (image_of v swapchain) v swapchain 0 ids h (ready_before (image_of v swapchain) v swapchain 0 ids ready.1) (room_before (image_of v swapchain) v swapchain 0 ids room.1)
+    may_taken (image_of v swapchain) v swapchain ids h ready room
 
 pub fetch_may : (v : View) (device swapchain : ℕ) (ids : List ℕ) (i : ℕ) → IsNext v (GetSwapchainImagesKHR device swapchain ids) → fetched v swapchain ≡ [] → i < length ids →
     MayCreate (fold after v (fetch_steps v swapchain (take i ids))) (get_or ids i 0) (image_of v swapchain (0 + i))
@@ -146,9 +88,9 @@ after_fetched v device swapchain ids next none =
 
 -- ---- what the row reads
 
-pub none_fetched : (xs : List ℕ) (r : Option ℕ) → r ≡ slice_get xs 0 → is_some r ≡ false → xs ≡ []
-none_fetched [] r is none = refl
-none_fetched (x ∷ xs) r is none = absurd cc
+pub none_fetched : (xs : List ℕ) (r : Option ℕ) (there : Bool) → r ≡ slice_get xs 0 → there ≡ is_some r → there ≡ false → xs ≡ []
+none_fetched [] r there is some none = refl
+none_fetched (x ∷ xs) r there is some none = absurd cc
 
 pub fetched_before : (v : View) (device swapchain : ℕ) (ids : List ℕ) (r : Option ℕ) → r ≡ slice_get (fetched v swapchain) 0 → is_some r ≡ true → effect_of v (GetSwapchainImagesKHR device swapchain ids) ≡ []
 unfolding effect_of

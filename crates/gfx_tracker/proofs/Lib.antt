@@ -8,8 +8,17 @@ pub mod Ids
 pub mod Unmoved
 pub mod Recorded
 pub mod Freed
+pub mod Created
 pub mod Allocated
 pub mod ReadItems
 pub mod Presented
 pub mod Marking
 pub mod Fetching
+pub mod Appended
+pub mod Operations
+pub mod LawfulEvents
+pub mod Reordered
+pub mod Submitting
+pub mod Operated
+pub mod Runnable
+pub mod Limits

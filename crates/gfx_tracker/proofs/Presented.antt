@@ -24,7 +24,7 @@ use Rattle.gfx_laws.proofs.NewObjects.{all_pass}
 use Rattle.gfx_tracker.specs.Taking.{IsNext, HasSignal, HasIndex}
 use Rattle.gfx_tracker.proofs.Next.{fence_signal, is_live_by, index_below}
 
-all_from_map : {X Y : Type 0} (P : Y → Type 0) (f : X → Y) (xs : List X) → AllByRecursion P (map f xs) → AllByRecursion (λ x. P (f x)) xs
+pub all_from_map : {X Y : Type 0} (P : Y → Type 0) (f : X → Y) (xs : List X) → AllByRecursion P (map f xs) → AllByRecursion (λ x. P (f x)) xs
 all_from_map P f [] a = tt
 all_from_map P f (x ∷ xs) a = (a.0, all_from_map P f xs a.1)
 

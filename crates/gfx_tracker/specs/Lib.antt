@@ -5,3 +5,8 @@ pub mod State
 pub mod Taking
 pub mod Sought
 pub mod Items
+pub mod Operations
+pub mod Outcome
+pub mod Tracker
+pub mod Laws
+pub mod Submitted

@@ -1,16 +1,13 @@
 //! The rows of swapchains: images that are fetched, and images that are acquired.
-ghost use Rattle.std.specs.Prelude.{◌≡◌, ◌==◌, true, false, fold, OnOk, OnErr};
+ghost use Rattle.std.specs.Prelude.{◌≡◌, OnOk, OnErr};
 ghost use Rattle.gfx_model.specs.Events.Event.{GetSwapchainImagesKHR, AcquireNextImageKHR};
 ghost use Rattle.gfx_model.specs.Views.{format_at, width_of, height_of, usage_in};
 ghost use Rattle.gfx_objects.specs.Objects.{answers};
-ghost use Rattle.gfx_model.specs.Questions.{passes};
-ghost use Rattle.gfx_model.specs.Effects.{signals_any};
-ghost use Rattle.gfx_model.specs.After.{after};
-ghost use Rattle.gfx_laws.specs.Lawful.{has_signal};
 ghost use Rattle.gfx_tracker.specs.State.{state_answers};
 ghost use Rattle.gfx_tracker.specs.Taking.{after_event, IsNext};
 
 use crate::details::{format_in, height_in, image_usage_in, width_in};
+use crate::each::signal_any;
 use crate::sought::fetched_at;
 use crate::state::State;
 use gfx_objects::{Detail, Objects};
@@ -104,15 +101,5 @@ pub(crate) fn acquire_next_image(
         state.acquire(swapchain, index);
         signal_any(state, semaphore);
         signal_any(state, fence);
-    }
-}
-
-// Signals a fence or semaphore, where the id is not 0.
-fn signal_any(state: &mut State, id: u64)
-    requires { (id == 0) ≡ false → passes (λ o. has_signal o.detail) ((state_answers state.old).live id) ≡ true }
-    ensures { state_answers state.new ≡ fold after (state_answers state.old) (signals_any id) }
-{
-    if id != 0 {
-        state.signal(id);
     }
 }

@@ -1,4 +1,4 @@
-use Rattle.std.proofs.Common.{◌≡◌, [], ◌+◌, suc, take, get_or, ap, subst, sym, ◌∙◌, arith}
+use Rattle.std.proofs.Common.{◌≡◌, ◌+◌, suc, take, get_or, ap, subst, sym, ◌∙◌, arith}
 use Rattle.std.specs.Prelude.{fold}
 use Rattle.std.proofs.lemmas.List.{take_all}
 use Rattle.gfx_model.specs.Events.Event.{GetSwapchainImagesKHR}
@@ -8,7 +8,8 @@ use Rattle.gfx_model.specs.After.{after}
 use Rattle.gfx_tracker.specs.State.{state_answers}
 use Rattle.gfx_tracker.specs.Taking.{MayCreate}
 use Rattle.gfx_tracker.proofs.Next.{after_none}
-use Rattle.gfx_tracker.proofs.Fetching.{none_fetched, fetched_before, fetch_few, fetch_may, fetch_steps, image_of, image_is, numbered_next, after_fetched}
+use Rattle.gfx_tracker.proofs.Created.{numbered_next}
+use Rattle.gfx_tracker.proofs.Fetching.{none_fetched, fetched_before, fetch_few, fetch_may, fetch_steps, image_of, image_is, after_fetched}
 use Rattle.gfx_tracker.proofs.swapchains.get_swapchain_images.Goals as goal
 
 pub returns-then-is_some-clause-ok : goal.returns-then-is_some-clause-ok
@@ -21,7 +22,7 @@ returns-then-is_some-clause-ok c =
 pub overflow_cast-images : goal.overflow_cast-images
 overflow_cast-images c =
     let v = state_answers c.args.state.now in
-    let none : fetched v c.args.swapchain ≡ [] = none_fetched (fetched v c.args.swapchain) c.fetched_at.result c.fetched_at.ensures (sym c.is_some.ensures ∙ c.if-is_some.false) in
+    let none = none_fetched (fetched v c.args.swapchain) c.fetched_at.result c.is_some.result c.fetched_at.ensures c.is_some.ensures c.if-is_some.false in
     let few = fetch_few v c.args._device c.args.swapchain c.args.images.now c.requires none in
     omega arith
 
@@ -33,7 +34,7 @@ images-init c =
 pub overflow_cast-detail : goal.overflow_cast-detail
 overflow_cast-detail c =
     let v = state_answers c.args.state.now in
-    let none : fetched v c.args.swapchain ≡ [] = none_fetched (fetched v c.args.swapchain) c.fetched_at.result c.fetched_at.ensures (sym c.is_some.ensures ∙ c.if-is_some.false) in
+    let none = none_fetched (fetched v c.args.swapchain) c.fetched_at.result c.is_some.result c.fetched_at.ensures c.is_some.ensures c.if-is_some.false in
     let few = fetch_few v c.args._device c.args.swapchain c.args.images.now c.requires none in
     let below = c.images-test.true in
     omega arith
@@ -44,7 +45,7 @@ create_owned-requires-clause-may c =
     let ids = c.args.images.now in
     let i = c.images.index in
     let shape = c.shape_of-format in
-    let none : fetched v c.args.swapchain ≡ [] = none_fetched (fetched v c.args.swapchain) c.fetched_at.result c.fetched_at.ensures (sym c.is_some.ensures ∙ c.if-is_some.false) in
+    let none = none_fetched (fetched v c.args.swapchain) c.fetched_at.result c.is_some.result c.fetched_at.ensures c.is_some.ensures c.if-is_some.false in
     let is = image_is v c.args.swapchain i shape.result.format shape.result.width shape.result.height shape.result.usage shape.ensures.format shape.ensures.width shape.ensures.height shape.ensures.usage in
     subst (λ d. MayCreate (state_answers c.images.state) (get_or ids i 0) d) (sym is)
     (subst (λ w. MayCreate w (get_or ids i 0) (image_of v c.args.swapchain (0 + i))) (sym c.images.invariant.steps)
@@ -77,7 +78,7 @@ images-preserved c =
 pub returns-clause-ok : goal.returns-clause-ok
 returns-clause-ok c =
     let v = state_answers c.args.state.now in
-    let none : fetched v c.args.swapchain ≡ [] = none_fetched (fetched v c.args.swapchain) c.fetched_at.result c.fetched_at.ensures (sym c.is_some.ensures ∙ c.if-is_some.false) in
+    let none = none_fetched (fetched v c.args.swapchain) c.fetched_at.result c.is_some.result c.fetched_at.ensures c.is_some.ensures c.if-is_some.false in
     c.images.invariant.steps
     ∙ ap (λ xs. fold after v (fetch_steps v c.args.swapchain xs)) (take_all c.images.index c.args.images.now c.images-test.false)
     ∙ after_fetched v c.args._device c.args.swapchain c.args.images.now c.requires none

@@ -1,0 +1,18 @@
+use Rattle.std.proofs.Common.{◌≡◌, Bool, true, false, ℕ, List, [], ◌++◌, refl, sym, ap, ◌∙◌}
+use Rattle.gfx_types.specs.declared.effect.Effect.TheVariants as effect
+use Rattle.gfx_model.specs.Events.{event_of}
+use Rattle.gfx_model.specs.Views.{View}
+use Rattle.gfx_tracker.specs.State.{state_answers}
+use Rattle.gfx_tracker.specs.Operations.{ops_of}
+use Rattle.gfx_tracker.proofs.Appended.{nothing_more}
+use Rattle.gfx_tracker.proofs.rows.take_effect.Goals as goal
+
+marker_none : (v : View) (begin : Bool) (frame : ℕ) → ops_of v (event_of (effect.Marker begin frame)) ≡ []
+unfolding ops_of
+marker_none v true frame = refl
+marker_none v false frame = refl
+
+pub returns-in-Marker-clause-ops : goal.returns-in-Marker-clause-ops
+returns-in-Marker-clause-ops c =
+    nothing_more c.args.ops.now
+    ∙ ap (λ xs. c.args.ops.now ++ xs) (sym (ap (λ e. ops_of (state_answers c.args.state.now) (event_of e)) c.in-Marker.is ∙ marker_none (state_answers c.args.state.now) c.in-Marker.begin c.in-Marker.frame))
