@@ -1,0 +1,5 @@
+pub mod Following
+pub mod Finding
+pub mod Presents
+pub mod Trimming
+pub mod Judging
