@@ -1,0 +1,98 @@
+//! A case of the table, and how cases are tried.
+
+use crate::entry::Entry;
+use crate::histories::{History, entries_in};
+use crate::judge::{Broken, Judge, Plain, Tracked};
+use crate::reading::{effects_of, spelled};
+use gfx_types::Fault;
+use std::alloc::Global;
+use std::process::Abort;
+use std::test::Fail;
+
+/// An effect after a history without a fault, and the fault that it has, if any. The history is that of the named ones,
+/// one after another, and then of further entries.
+#[derive(Clone, Copy, Debug)]
+pub struct Case {
+    pub name: &'static str,
+    pub after: &'static [History],
+    pub then: &'static [Entry],
+    pub effect: Entry,
+    pub fault: Option<Fault>,
+}
+
+/// Entries, each as its name and its numbers.
+macro_rules! entries {
+    ($($name:ident($($number:expr),*);)*) => {
+        [$(Entry { name: Name::$name, numbers: &[$($number),*] }),*]
+    };
+}
+
+/// Cases that have a fault: a name, histories and further entries, an effect and its fault.
+macro_rules! cases {
+    ($($text:literal: $($base:ident)* { $($before:tt)* } $name:ident($($number:expr),*) => $fault:ident;)*) => {
+        [$(Case {
+            name: $text,
+            after: &[$(History::$base),*],
+            then: &entries!($($before)*),
+            effect: Entry { name: Name::$name, numbers: &[$($number),*] },
+            fault: Some(Fault::$fault),
+        }),*]
+    };
+}
+
+/// Cases without a fault.
+macro_rules! accepted {
+    ($($text:literal: $($base:ident)* { $($before:tt)* } $name:ident($($number:expr),*);)*) => {
+        [$(Case {
+            name: $text,
+            after: &[$(History::$base),*],
+            then: &entries!($($before)*),
+            effect: Entry { name: Name::$name, numbers: &[$($number),*] },
+            fault: None,
+        }),*]
+    };
+}
+
+pub(crate) use accepted;
+pub(crate) use cases;
+pub(crate) use entries;
+
+/// All entries of a case, its effect last.
+fn entries_of(alloc: Global, case: &Case) -> Result<Vec<Entry>, Fail> {
+    let mut all = Vec::new(alloc);
+    'histories: for history in case.after {
+        all.extend_from_slice(entries_in(*history))?;
+    }
+    all.extend_from_slice(case.then)?;
+    all.push(case.effect)?;
+    Ok(all)
+}
+
+/// Whether the judge finds just the fault of the case, and none before it.
+fn holds<J: Judge>(rt: &impl Abort, alloc: Global, case: &Case) -> Result<bool, Fail> {
+    let entries = entries_of(alloc, case)?;
+    let fields = spelled(alloc, entries.as_slice())?;
+    let effects = effects_of(alloc, entries.as_slice(), fields.as_slice())?;
+    let found = J::first_fault(rt, alloc, effects.as_slice())?;
+    let last = entries.len().saturating_sub(1);
+    Ok(found == case.fault.map(|fault| Broken { at: last, fault }))
+}
+
+/// Tries all cases with a judge, and names those in which it says something else.
+pub fn try_all<J: Judge>(rt: &impl Abort, alloc: Global, cases: &[Case]) -> Result<(), Fail> {
+    let mut wrong = String::new(alloc);
+    'cases: for case in cases {
+        if !holds::<J>(rt, alloc, case)? {
+            wrong.push_str(case.name)?;
+            wrong.push_str("; ")?;
+        }
+    }
+    assert!(rt; wrong.is_empty(), "not so: {wrong}");
+    Ok(())
+}
+
+/// Tries all cases with the plain evaluator, and then with the tracker.
+pub fn try_both(rt: &impl Abort, alloc: Global, cases: &[Case]) -> Result<(), Fail> {
+    try_all::<Plain>(rt, alloc, cases)?;
+    try_all::<Tracked>(rt, alloc, cases)
+}

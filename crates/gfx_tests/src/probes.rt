@@ -1,0 +1,63 @@
+//! Effects that are asked for their faults after each effect of a capture: one of each row, some of which fit.
+
+use crate::case::entries;
+use crate::entry::{Entry, Name};
+use crate::histories::WHOLE;
+
+/// The effects, in the order of the rows.
+pub static PROBES: [Entry; 54] = entries! {
+    CreateInstance(201, 0);
+    DestroyInstance(1);
+    CreateHeadlessSurfaceEXT(1, 202);
+    DestroySurfaceKHR(1, 2);
+    CreateDevice(1, 3);
+    DestroyDevice(3);
+    GetDeviceQueue(3, 4);
+    AllocateMemory(3, 208, 256);
+    FreeMemory(3, 8);
+    MapMemory(3, 8, 0, WHOLE);
+    UnmapMemory(3, 8);
+    CreateBuffer(3, 9, 64, 3);
+    DestroyBuffer(3, 9);
+    BindBufferMemory(3, 9, 8, 0);
+    CreateImage(3, 12, 13, 4, 4, 3);
+    DestroyImage(3, 12);
+    BindImageMemory(3, 12, 8, 128);
+    CreateCommandPool(3, 10, 2);
+    DestroyCommandPool(3, 10);
+    ResetCommandPool(3, 10);
+    AllocateCommandBuffers(3, 10, 1, 29);
+    FreeCommandBuffers(3, 10, 2, 11, 15);
+    BeginCommandBuffer(11, 0);
+    EndCommandBuffer(11);
+    ResetCommandBuffer(11);
+    CmdPipelineBarrier(11, 1, 12, 0, 7);
+    CmdFillBuffer(11, 9, 0, 4, 0);
+    CmdUpdateBuffer(11, 9, 0, 4);
+    CmdCopyBuffer(11, 9, 19, 1, 0, 0, 4);
+    CmdCopyImage(11, 12, 6, 22, 7, 1, 0, 0, 0, 0, 4, 4);
+    CmdCopyBufferToImage(11, 9, 12, 7, 1, 0, 0, 0, 0, 0, 4, 4);
+    CmdCopyImageToBuffer(11, 12, 6, 9, 1, 0, 0, 0, 0, 0, 4, 4);
+    CmdClearColorImage(11, 12, 7, 0, 0, 0, 0);
+    CreateFence(3, 20, 0);
+    DestroyFence(3, 20);
+    ResetFences(3, 1, 20);
+    WaitForFences(3, 2, 20, 21, 1, 0);
+    GetFenceStatus(3, 20, 1);
+    CreateSemaphore(3, 30);
+    DestroySemaphore(3, 30);
+    QueueSubmit(4, 1, 1, 31, 1, 11, 1, 30, 20);
+    QueueWaitIdle(4);
+    DeviceWaitIdle(3);
+    CreateSwapchainKHR(3, 5, 2, 2, 13, 4, 4, 3);
+    DestroySwapchainKHR(3, 5);
+    GetSwapchainImagesKHR(3, 5, 2, 6, 7);
+    AcquireNextImageKHR(3, 5, 0, 20, 1, 0);
+    QueuePresentKHR(4, 0, 1, 5, 0);
+    FillMemory(8, 16, 2);
+    InitImage(12, 7, 0);
+    SetSwapchainState(5, 2, 0, 1);
+    SetSemaphoreState(30, 1);
+    Begin(1);
+    End(7);
+};
