@@ -1,0 +1,12 @@
+use Rattle.std.proofs.Common.{flat_map, take}
+use Rattle.gfx_model.specs.Effects.{changes_of_op}
+use Rattle.gfx_replay.specs.Held.{HoldsMore}
+use Rattle.gfx_replay.specs.Maps.{IsSame}
+use Rattle.gfx_replay.specs.Places.{bytes_in, sizes_in}
+use Rattle.gfx_replay.proofs.places.Places.run_all.Given as goal
+
+abbrev pub invariant-loop-op : goal.invariant-loop-op
+invariant-loop-op l = record {
+  held : HoldsMore (flat_map (changes_of_op l.given) (take l.op-index l.op-items)) (bytes_in l.initial.self) (bytes_in l.self);
+  sizes : IsSame (sizes_in l.initial.self) (sizes_in l.self);
+}

@@ -1,0 +1,13 @@
+pub mod Maps
+pub mod Handles
+pub mod Held
+pub mod Ranges
+pub mod Sizes
+pub mod Places
+pub mod Placing
+pub mod Shown
+pub mod Stands
+pub mod Updates
+pub mod Laws
+pub mod Fed
+pub mod Replayer

@@ -1,0 +1,33 @@
+-- The places that an event makes and ends.
+use Rattle.std.specs.Prelude.{◌≡◌, ℕ, List, Option, Some, None, option_map, replicate}
+use Rattle.gfx_types.specs.declared.names.Kind.TheVariants as kind
+use Rattle.gfx_types.specs.declared.op.Place.{Place}
+use Rattle.gfx_types.specs.declared.op.Place.TheVariants as place
+use Rattle.gfx_model.specs.Events.{Event}
+use Rattle.gfx_model.specs.Events.Event.{AllocateMemory, FreeMemory, DestroySwapchainKHR, GetSwapchainImagesKHR}
+use Rattle.gfx_model.specs.Views.{View, Window, window, is_live}
+use Rattle.gfx_replay.specs.Maps.{IsSame, IsSet, IsGiven, IsKept}
+use Rattle.gfx_replay.specs.Held.{Bytes}
+
+-- as many zeros as a window has bytes
+abbrev pub zeros_in : Window → List ℕ
+zeros_in w = replicate w.length 0
+
+-- the zeros of an image, as many as its window has bytes
+abbrev pub zeros_of : View → Place → Option (List ℕ)
+zeros_of v (place.Memory m) = None
+zeros_of v (place.Image x) = option_map zeros_in (window v x)
+
+-- what an event makes of the places, by the answers after it
+abbrev pub AreUpdated : View → Event → Bytes → Bytes → Type 0
+AreUpdated v (AllocateMemory device memory size) old new = IsSet old new (place.Memory memory) (Some (replicate size 0))
+AreUpdated v (FreeMemory device memory) old new = IsSet old new (place.Memory memory) None
+AreUpdated v (GetSwapchainImagesKHR device swapchain images) old new = IsGiven old new images (zeros_of v)
+AreUpdated v (DestroySwapchainKHR device swapchain) old new = IsKept old new (is_live v kind.Image)
+AreUpdated v _ old new = IsSame old new
+
+-- a new memory has no place yet, and no image has the id 0
+abbrev pub IsVacantFor : Event → Bytes → Type 0
+IsVacantFor (AllocateMemory device memory size) old = old (place.Memory memory) ≡ None
+IsVacantFor (DestroySwapchainKHR device swapchain) old = old (place.Image 0) ≡ None
+IsVacantFor _ old = Unit {0}
