@@ -1,0 +1,10 @@
+pub mod Writing
+pub mod Listing
+pub mod Filling
+pub mod Fitting
+pub mod Resources
+pub mod Recorded
+pub mod Anew
+pub mod Standing
+pub mod Versions
+pub mod Placeless

@@ -1,0 +1,10 @@
+pub mod Written
+pub mod Ids
+pub mod Known
+pub mod Filled
+pub mod Images
+pub mod Pools
+pub mod Parts
+pub mod Stored
+pub mod Sections
+pub mod Versions

@@ -1,0 +1,116 @@
+//! Ids that a section lists together.
+ghost use Rattle.std.specs.Prelude.{◌≡◌, ◌≤◌, ◌++◌, length, filter, IfOk, OnOk};
+ghost use Rattle.gfx_model.specs.Views as view;
+ghost use Rattle.gfx_objects.specs.Object.{detail_of};
+ghost use Rattle.gfx_objects.specs.Objects.{answers};
+ghost use Rattle.gfx_state.specs.Ids.{children_in};
+
+use gfx_objects::{Detail, Objects};
+use gfx_types::{Ids, Kind, WantMemory};
+use std::alloc::{AllocError, Global};
+
+// The parent of a live object, 0 for any other id.
+fn parent_of(objects: &Objects, id: u64) -> u64
+    ensures { result ≡ view.parent_of (answers objects.now) id }
+{
+    match objects.get(id) {
+        Some(object) => object.parent,
+        None => 0,
+    }
+}
+
+/// The live ids of a kind with this parent, rising.
+pub(crate) fn children_of(
+    alloc: Global,
+    objects: &Objects,
+    kind: Kind,
+    parent: u64,
+) -> Result<Vec<u64>, AllocError>
+    ensures ids { IfOk result (λ ids. ids.items ≡ children_in (answers objects.now) kind parent) }
+    ensures few { IfOk result (λ ids. length ids.items ≤ 65536) }
+{
+    let _live = objects.live();
+    let mut ids = Vec::new(alloc);
+    let mut left = objects.children(parent);
+    let mut after = 0;
+    'ids: while left > 0 {
+        let Some(id) = objects.next(kind, after) else {
+            return Ok(ids);
+        };
+        if parent_of(objects, id) == parent {
+            ids.push(id)?;
+            left -= 1;
+        }
+        after = id;
+    }
+    Ok(ids)
+}
+
+// Whether the live object of this id is the image of a swapchain at the index.
+fn is_at(objects: &Objects, id: u64, index: u32) -> bool
+    ensures { result ≡ view.is_one (answers objects.now) (λ o. view.has_index index o.detail) id }
+{
+    match objects.get(id) {
+        Some(object) => has_index(&object.detail, index),
+        None => false,
+    }
+}
+
+// Whether these are the parameters of the image of a swapchain at the index.
+fn has_index(detail: &Detail, index: u32) -> bool
+    ensures { result ≡ view.has_index index (detail_of detail.now) }
+{
+    match detail {
+        Detail::Image {
+            index: Some(at),
+            ..
+        } => *at == index,
+        _ => false,
+    }
+}
+
+// Appends those of the ids that are images at the index.
+fn push_at(
+    images: &mut Vec<u64>,
+    objects: &Objects,
+    ids: &[u64],
+    index: u32,
+) -> Result<(), AllocError>
+    ensures { OnOk result (images.new.items ≡ images.old.items ++ filter (view.is_one (answers objects.now) (λ o. view.has_index index o.detail)) ids.now) }
+{
+    'ids: for id in ids {
+        if is_at(objects, *id, index) {
+            images.push(*id)?;
+        }
+    }
+    Ok(())
+}
+
+/// The fetched images of a swapchain, by index.
+pub(crate) fn fetched(
+    alloc: Global,
+    objects: &Objects,
+    swapchain: u64,
+    images: u32,
+) -> Result<Vec<u64>, AllocError>
+    requires { images ≡ view.images_in (answers objects.now) swapchain }
+    ensures ids { IfOk result (λ ids. ids.items ≡ view.fetched (answers objects.now) swapchain) }
+    ensures few { IfOk result (λ ids. length ids.items ≤ 65536) }
+{
+    let children = children_of(alloc, objects, Kind::Image, swapchain)?;
+    let mut ids = Vec::new(alloc);
+    'indices: for index in 0..images {
+        push_at(&mut ids, objects, &children, index)?;
+    }
+    Ok(ids)
+}
+
+/// A list of ids of its own.
+pub(crate) fn ids_of(alloc: Global, ids: &[u64]) -> Result<Ids, WantMemory>
+    ensures { IfOk result (λ all. all ≡ ids.now) }
+{
+    match Vec::from_slice(alloc, ids) {
+        Ok(all) => Ok(Ids::of(all)),
+        Err(_) => Err(WantMemory),
+    }
+}

@@ -1,0 +1,28 @@
+//! The state section of a capture, written block by block.
+#![tactic(auto)]
+
+ghost use Rattle.gfx_state.specs.Versions.{SectionInVersions};
+
+mod fault;
+mod ids;
+mod made;
+mod memory;
+mod object;
+mod parts;
+mod piece;
+mod pool;
+mod resource;
+mod section;
+mod state;
+mod swapchain;
+#[cfg(test)]
+mod tests;
+mod writer;
+
+pub use fault::StateFault;
+pub use state::write_state;
+
+/// The section for a valid history has the same blocks in both versions of a file.
+pub fn section_in_versions()
+    ensures { SectionInVersions }
+{}

@@ -1,0 +1,218 @@
+//! The blocks of a pool and its command buffers.
+ghost use Rattle.std.specs.Prelude.{◌≡◌, ◌≤◌, ◌^◌, ◌∷◌, ◌++◌, [], true, length, flat_map};
+ghost use Rattle.std.specs.List.{AllByRecursion};
+ghost use Rattle.gfx_types.specs.declared.names.Kind.TheVariants as kind;
+ghost use Rattle.gfx_model.specs.Events.Event.{CreateCommandPool, BeginCommandBuffer, EndCommandBuffer};
+ghost use Rattle.gfx_model.specs.Spelling.{payload};
+ghost use Rattle.gfx_model.specs.Questions.{is_kept};
+ghost use Rattle.gfx_model.specs.Section as section;
+ghost use Rattle.gfx_objects.specs.Objects.{answers};
+ghost use Rattle.gfx_commands.specs.Recorded.{event_in, IsRecorded};
+ghost use Rattle.gfx_commands.specs.Recordings.{buffers};
+ghost use Rattle.gfx_state.specs.Ids.{children_in};
+ghost use Rattle.gfx_state.specs.Pools.{CommandsFit, recorded_anew};
+ghost use Rattle.gfx_state.specs.Written.{Wrote};
+
+use crate::StateFault;
+use crate::ids::{children_of, ids_of};
+use crate::writer::write_effect;
+use gfx_commands::{CbState, Recordings};
+use gfx_io::Sink;
+use gfx_objects::Objects;
+use gfx_params::{ParamFault, decode};
+use gfx_types::{Call, Effect, Kind};
+use std::alloc::Global;
+
+// Writes a recorded command.
+fn write_command<K: Sink>(
+    alloc: Global,
+    sink: &mut K,
+    room: &mut Vec<u8>,
+    call_id: u32,
+    params: &[u8],
+) -> Result<(), StateFault>
+    requires recorded { IsRecorded (record { call_id = call_id; params = params.now }) }
+    requires small { length (payload 1 0 (event_in (record { call_id = call_id; params = params.now }))) ≤ 2 ^ 27 }
+    ensures { Wrote (K.taken sink.old) (K.taken sink.new) (K.faults sink.old) (K.faults sink.new) (event_in (record { call_id = call_id; params = params.now }) ∷ []) result }
+{
+    match decode(alloc, 1, call_id, params) {
+        Ok(call) => write_effect(sink, room, &Effect::Call(call)),
+        Err(ParamFault::BadParams) => unreachable!(),
+        Err(ParamFault::WantMemory) => Err(StateFault::WantMemory),
+    }
+}
+
+// Writes the commands of a buffer, which is recording or executable.
+fn write_commands<K: Sink>(
+    alloc: Global,
+    sink: &mut K,
+    room: &mut Vec<u8>,
+    recordings: &Recordings,
+    cb: u64,
+) -> Result<(), StateFault>
+    requires kept { is_kept (buffers recordings.now cb).state ≡ true }
+    requires small { AllByRecursion (λ c. length (payload 1 0 c) ≤ 2 ^ 27) (buffers recordings.now cb).commands }
+    ensures { Wrote (K.taken sink.old) (K.taken sink.new) (K.faults sink.old) (K.faults sink.new) (buffers recordings.now cb).commands result }
+{
+    let _totals = recordings.totals();
+    let mut k = 0;
+    'commands: while let Some(command) = recordings.command(cb, k) {
+        write_command(alloc, sink, room, command.call_id, command.params.items())?;
+        k += 1;
+    }
+    Ok(())
+}
+
+// Writes that a buffer is begun.
+#[tactic(auto, using(gfx_section_law::proofs::Sizes::fixed_small), unfolding(gfx_model::specs::Spelling::fields_of))]
+fn write_begin<K: Sink>(
+    sink: &mut K,
+    room: &mut Vec<u8>,
+    cb: u64,
+    flags: u32,
+) -> Result<(), StateFault>
+    ensures { Wrote (K.taken sink.old) (K.taken sink.new) (K.faults sink.old) (K.faults sink.new)
+        (BeginCommandBuffer cb flags ∷ []) result }
+{
+    write_effect(
+        sink,
+        room,
+        &Effect::Call(Call::BeginCommandBuffer { cb, flags }),
+    )
+}
+
+// Writes that a buffer is ended.
+#[tactic(auto, using(gfx_section_law::proofs::Sizes::fixed_small), unfolding(gfx_model::specs::Spelling::fields_of))]
+fn write_end<K: Sink>(sink: &mut K, room: &mut Vec<u8>, cb: u64) -> Result<(), StateFault>
+    ensures { Wrote (K.taken sink.old) (K.taken sink.new) (K.faults sink.old) (K.faults sink.new) (EndCommandBuffer cb ∷ []) result }
+{
+    write_effect(sink, room, &Effect::Call(Call::EndCommandBuffer { cb }))
+}
+
+// Writes that a recording or executable buffer is begun, and its commands.
+fn write_begun<K: Sink>(
+    alloc: Global,
+    sink: &mut K,
+    room: &mut Vec<u8>,
+    recordings: &Recordings,
+    cb: u64,
+) -> Result<(), StateFault>
+    requires kept { is_kept (buffers recordings.now cb).state ≡ true }
+    requires fit { CommandsFit (buffers recordings.now) }
+    ensures { Wrote (K.taken sink.old) (K.taken sink.new) (K.faults sink.old) (K.faults sink.new)
+        (BeginCommandBuffer cb (buffers recordings.now cb).flags ∷ (buffers recordings.now cb).commands) result }
+{
+    write_begin(sink, room, cb, recordings.flags(cb))?;
+    write_commands(alloc, sink, room, recordings, cb)
+}
+
+// Writes a recording or executable buffer anew, and nothing of any other.
+fn write_recording<K: Sink>(
+    alloc: Global,
+    sink: &mut K,
+    room: &mut Vec<u8>,
+    recordings: &Recordings,
+    cb: u64,
+) -> Result<(), StateFault>
+    requires { CommandsFit (buffers recordings.now) }
+    ensures { Wrote (K.taken sink.old) (K.taken sink.new) (K.faults sink.old) (K.faults sink.new) (recorded_anew (buffers recordings.now) cb) result }
+{
+    match recordings.state(cb) {
+        CbState::Recording => write_begun(alloc, sink, room, recordings, cb),
+        CbState::Executable => {
+            write_begun(alloc, sink, room, recordings, cb)?;
+            write_end(sink, room, cb)
+        }
+        CbState::Initial => Ok(()),
+        CbState::Invalid => Ok(()),
+    }
+}
+
+// Writes the buffers of a pool that are recording or executable.
+fn write_recordings<K: Sink>(
+    alloc: Global,
+    sink: &mut K,
+    room: &mut Vec<u8>,
+    recordings: &Recordings,
+    cbs: &[u64],
+) -> Result<(), StateFault>
+    requires { CommandsFit (buffers recordings.now) }
+    ensures { Wrote (K.taken sink.old) (K.taken sink.new) (K.faults sink.old) (K.faults sink.new)
+        (flat_map (recorded_anew (buffers recordings.now)) cbs.now) result }
+{
+    'buffers: for cb in cbs {
+        write_recording(alloc, sink, room, recordings, *cb)?;
+    }
+    Ok(())
+}
+
+// Writes the allocation of a pool's buffers, where it has some.
+fn write_allocation<K: Sink>(
+    alloc: Global,
+    sink: &mut K,
+    room: &mut Vec<u8>,
+    device: u64,
+    pool: u64,
+    cbs: &[u64],
+) -> Result<(), StateFault>
+    requires { length cbs.now ≤ 65536 }
+    ensures { Wrote (K.taken sink.old) (K.taken sink.new) (K.faults sink.old) (K.faults sink.new) (section.allocate_event device pool cbs.now) result }
+{
+    match cbs {
+        [] => Ok(()),
+        [_, ..] => {
+            let call = Call::AllocateCommandBuffers {
+                device,
+                pool,
+                buffers: ids_of(alloc, cbs)?,
+            };
+            write_effect(sink, room, &Effect::Call(call))
+        }
+    }
+}
+
+// Writes what stands behind the creation of a pool: its buffers, and what is recorded in them.
+fn write_buffers<K: Sink>(
+    alloc: Global,
+    sink: &mut K,
+    room: &mut Vec<u8>,
+    objects: &Objects,
+    recordings: &Recordings,
+    device: u64,
+    pool: u64,
+) -> Result<(), StateFault>
+    requires { CommandsFit (buffers recordings.now) }
+    ensures { let cbs = children_in (answers objects.now) kind.CommandBuffer pool in
+        Wrote (K.taken sink.old) (K.taken sink.new) (K.faults sink.old) (K.faults sink.new)
+        (section.allocate_event device pool cbs ++ flat_map (recorded_anew (buffers recordings.now)) cbs) result }
+{
+    let cbs = children_of(alloc, objects, Kind::CommandBuffer, pool)?;
+    write_allocation(alloc, sink, room, device, pool, &cbs)?;
+    write_recordings(alloc, sink, room, recordings, &cbs)
+}
+
+/// Writes a pool with its buffers and what is recorded in them.
+#[tactic(auto, using(gfx_section_law::proofs::Sizes::fixed_small), unfolding(gfx_model::specs::Spelling::fields_of))]
+pub(crate) fn write_pool<K: Sink>(
+    alloc: Global,
+    sink: &mut K,
+    room: &mut Vec<u8>,
+    objects: &Objects,
+    recordings: &Recordings,
+    device: u64,
+    pool: u64,
+    flags: u32,
+) -> Result<(), StateFault>
+    requires { CommandsFit (buffers recordings.now) }
+    ensures { let cbs = children_in (answers objects.now) kind.CommandBuffer pool in
+        Wrote (K.taken sink.old) (K.taken sink.new) (K.faults sink.old) (K.faults sink.new)
+        (CreateCommandPool device pool flags ∷ section.allocate_event device pool cbs ++ flat_map (recorded_anew (buffers recordings.now)) cbs) result }
+{
+    let call = Call::CreateCommandPool {
+        device,
+        pool,
+        flags,
+    };
+    write_effect(sink, room, &Effect::Call(call))?;
+    write_buffers(alloc, sink, room, objects, recordings, device, pool)
+}

@@ -1,0 +1,172 @@
+//! The whole section.
+ghost use Rattle.std.specs.Prelude.{◌≡◌, ◌≤◌, ◌∷◌, [], List, Err, flat_map, OnOk, OnErr};
+ghost use Rattle.std.specs.Io.KnownBytes.{Appends};
+ghost use Rattle.gfx_io.specs.Causes.{Rose};
+ghost use Rattle.gfx_io.specs.Pieces.{AppendsPart};
+ghost use Rattle.gfx_model.specs.Events.Event.{BeginSection, EndSection};
+ghost use Rattle.gfx_model.specs.Spelling.{encoding};
+ghost use Rattle.gfx_model.specs.Steps.{Change};
+ghost use Rattle.gfx_model.specs.Section as section;
+ghost use Rattle.gfx_commands.specs.Recordings.{buffers};
+ghost use Rattle.gfx_state.specs.Parts.{answers_in};
+ghost use Rattle.gfx_state.specs.Pools.{CommandsFit};
+ghost use Rattle.gfx_state.specs.Sections.{events_at, section_by};
+ghost use Rattle.gfx_state.specs.Stored.{HasPlaces, IsStored};
+ghost use Rattle.gfx_state.specs.Written.{Wrote, Counted};
+
+use crate::StateFault;
+use crate::object::write_object;
+use crate::parts::Parts;
+use crate::writer::write_effect;
+use gfx_device::StateBytes;
+use gfx_io::Sink;
+use gfx_types::{Effect, Kind};
+use std::alloc::Global;
+
+/// The kinds in the order of a section. An image of a swapchain and a command buffer stand with their parents.
+const ORDER: [Kind; 11] = [
+    Kind::Instance,
+    Kind::Surface,
+    Kind::Device,
+    Kind::Queue,
+    Kind::Memory,
+    Kind::Buffer,
+    Kind::Image,
+    Kind::Swapchain,
+    Kind::Fence,
+    Kind::Semaphore,
+    Kind::Pool,
+];
+
+// Writes the live object of an id, where there is one.
+fn write_at<B: StateBytes, K: Sink>(
+    alloc: Global,
+    sink: &mut K,
+    room: &mut Vec<u8>,
+    parts: &Parts<'_>,
+    bytes: &B,
+    id: u64,
+) -> Result<(), StateFault>
+    requires fit { CommandsFit (buffers parts.now.recordings.now) }
+    requires places { HasPlaces (answers_in parts.now) (B.bytes bytes.now) }
+    ensures written { (es : List Change) → IsStored (answers_in parts.now) (B.bytes bytes.now) es → Wrote (K.taken sink.old) (K.taken sink.new) (K.faults sink.old) (K.faults sink.new)
+        (events_at (record { answers = answers_in parts.now; es = es }) id) result }
+    ensures counts { Counted (K.faults sink.old) (K.faults sink.new) result }
+{
+    match parts.objects.get(id) {
+        Some(object) => write_object(alloc, sink, room, parts, bytes, id, *object),
+        None => Ok(()),
+    }
+}
+
+// Writes the live objects of a kind.
+fn write_kind<B: StateBytes, K: Sink>(
+    alloc: Global,
+    sink: &mut K,
+    room: &mut Vec<u8>,
+    parts: &Parts<'_>,
+    bytes: &B,
+    kind: Kind,
+) -> Result<(), StateFault>
+    requires fit { CommandsFit (buffers parts.now.recordings.now) }
+    requires places { HasPlaces (answers_in parts.now) (B.bytes bytes.now) }
+    ensures written { (es : List Change) → IsStored (answers_in parts.now) (B.bytes bytes.now) es → Wrote (K.taken sink.old) (K.taken sink.new) (K.faults sink.old) (K.faults sink.new)
+        (section.group (record { answers = answers_in parts.now; es = es }) kind) result }
+    ensures counts { Counted (K.faults sink.old) (K.faults sink.new) result }
+{
+    let mut after = 0;
+    'ids: while let Some(id) = parts.objects.next(kind, after) {
+        write_at(alloc, sink, room, parts, bytes, id)?;
+        after = id;
+    }
+    Ok(())
+}
+
+// Writes the live objects of some kinds, kind by kind.
+fn write_kinds<B: StateBytes, K: Sink>(
+    alloc: Global,
+    sink: &mut K,
+    room: &mut Vec<u8>,
+    parts: &Parts<'_>,
+    bytes: &B,
+    kinds: &[Kind],
+) -> Result<(), StateFault>
+    requires fit { CommandsFit (buffers parts.now.recordings.now) }
+    requires places { HasPlaces (answers_in parts.now) (B.bytes bytes.now) }
+    ensures written { (es : List Change) → IsStored (answers_in parts.now) (B.bytes bytes.now) es → Wrote (K.taken sink.old) (K.taken sink.new) (K.faults sink.old) (K.faults sink.new)
+        (flat_map (section.group (record { answers = answers_in parts.now; es = es })) kinds.now) result }
+    ensures counts { Counted (K.faults sink.old) (K.faults sink.new) result }
+{
+    'kinds: for kind in kinds {
+        write_kind(alloc, sink, room, parts, bytes, *kind)?;
+    }
+    Ok(())
+}
+
+// Writes the begin marker.
+#[tactic(auto, using(gfx_section_law::proofs::Sizes::fixed_small), unfolding(gfx_model::specs::Spelling::fields_of))]
+fn write_begin<K: Sink>(sink: &mut K, room: &mut Vec<u8>, frame: u64) -> Result<(), StateFault>
+    ensures { Wrote (K.taken sink.old) (K.taken sink.new) (K.faults sink.old) (K.faults sink.new) (BeginSection frame ∷ []) result }
+{
+    write_effect(sink, room, &Effect::Marker { begin: true, frame })
+}
+
+// Writes the end marker.
+#[tactic(auto, using(gfx_section_law::proofs::Sizes::fixed_small), unfolding(gfx_model::specs::Spelling::fields_of))]
+fn write_end<K: Sink>(sink: &mut K, room: &mut Vec<u8>, frame: u64) -> Result<(), StateFault>
+    ensures { Wrote (K.taken sink.old) (K.taken sink.new) (K.faults sink.old) (K.faults sink.new) (EndSection frame ∷ []) result }
+{
+    write_effect(
+        sink,
+        room,
+        &Effect::Marker {
+            begin: false,
+            frame,
+        },
+    )
+}
+
+// Writes the markers and what stands between them.
+fn write_all<B: StateBytes, K: Sink>(
+    alloc: Global,
+    sink: &mut K,
+    room: &mut Vec<u8>,
+    parts: &Parts<'_>,
+    bytes: &B,
+    frame: u64,
+) -> Result<(), StateFault>
+    requires fit { CommandsFit (buffers parts.now.recordings.now) }
+    requires places { HasPlaces (answers_in parts.now) (B.bytes bytes.now) }
+    ensures written { (es : List Change) → IsStored (answers_in parts.now) (B.bytes bytes.now) es → Wrote (K.taken sink.old) (K.taken sink.new) (K.faults sink.old) (K.faults sink.new)
+        (section_by (record { answers = answers_in parts.now; es = es }) frame) result }
+    ensures counts { Counted (K.faults sink.old) (K.faults sink.new) result }
+{
+    write_begin(sink, room, frame)?;
+    write_kinds(alloc, sink, room, parts, bytes, &ORDER)?;
+    write_end(sink, room, frame)
+}
+
+/// Writes the state section for the frame of this number, both its markers with it, block by block.
+pub(crate) fn write_section<B: StateBytes, K: Sink>(
+    alloc: Global,
+    parts: &Parts<'_>,
+    bytes: &B,
+    frame: u64,
+    sink: &mut K,
+) -> Result<(), StateFault>
+    // the block of each command that is kept fits in a file
+    requires fit { CommandsFit (buffers parts.now.recordings.now) }
+    // each live memory and each fetched image of a live swapchain has a place of the right length
+    requires places { HasPlaces (answers_in parts.now) (B.bytes bytes.now) }
+    ensures ok { (es : List Change) → IsStored (answers_in parts.now) (B.bytes bytes.now) es
+        → OnOk result (Appends (K.taken sink.old) (K.taken sink.new) (flat_map (encoding 1 0) (section_by (record { answers = answers_in parts.now; es = es }) frame))) }
+
+    // After an error the sink took a front of the section.
+    ensures err { (es : List Change) → IsStored (answers_in parts.now) (B.bytes bytes.now) es
+        → OnErr result (AppendsPart (K.taken sink.old) (K.taken sink.new) (flat_map (encoding 1 0) (section_by (record { answers = answers_in parts.now; es = es }) frame))) }
+    ensures later { K.faults sink.old ≤ K.faults sink.new }
+    ensures cause { result ≡ Err StateFault.SinkFault → Rose (K.faults sink.old) (K.faults sink.new) }
+{
+    let mut room = Vec::new(alloc);
+    write_all(alloc, sink, &mut room, parts, bytes, frame)
+}
