@@ -1,0 +1,9 @@
+pub mod Feeding
+pub mod Judging
+pub mod Asking
+pub mod Taking
+pub mod Later
+pub mod Playing
+pub mod Told
+pub mod Showing
+pub mod Places
