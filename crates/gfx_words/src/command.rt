@@ -17,6 +17,8 @@ pub enum Command {
     Make {
         frames: u64,
     },
+    Help,
+    Version,
 }
 
 impl Command {
@@ -25,6 +27,15 @@ impl Command {
 
     /// The command that the words name.
     pub fn of(words: &[String]) -> Option<Command>
+        ensures some { IfSome result (λ c. (map string_bytes words.now ≡ words_of c) × Fits c) }
+        ensures none { IsNone result → (c : Command) → Fits c → map string_bytes words.now ≢ words_of c }
+        ensures only { IfSome result (λ c. (other : Command) → Fits other → map string_bytes words.now ≡ words_of other → other ≡ c) }
+    {
+        Command::by_count(words)
+    }
+
+    // The command that the words name, looked for among those of so many words.
+    fn by_count(words: &[String]) -> Option<Command>
         ensures some { IfSome result (λ c. (map string_bytes words.now ≡ words_of c) × Fits c) }
         ensures none { IsNone result → (c : Command) → Fits c → map string_bytes words.now ≢ words_of c }
     {
@@ -57,6 +68,8 @@ impl Command {
                 pixels: false,
                 frames: None,
             }),
+            "--help" => Some(Command::Help),
+            "--version" => Some(Command::Version),
             _ => None,
         }
     }

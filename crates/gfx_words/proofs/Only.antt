@@ -1,0 +1,90 @@
+-- Words name at most one command.
+use Rattle.std.proofs.Common.{◌≡◌, ℕ, ◌==◌, Bool, true, false, List, [], ◌∷◌, length, get_or, Option, Some, None, refl, sym, ap, ◌∙◌, arith}
+use Rattle.std.specs.Prelude.{decimal, IfSome}
+use Rattle.std.specs.List.{before_first, after_first}
+use Rattle.std.proofs.lemmas.Fmt.{decimal_injective}
+use Rattle.gfx_words.specs.declared.range.FrameRange.{FrameRange}
+use Rattle.gfx_words.specs.declared.command.Command.{Command}
+use Rattle.gfx_words.specs.declared.command.Command.TheVariants.{Info, Replay, Trim, Make, Help, Version}
+use Rattle.gfx_words.specs.Words.{range_text, FitsRange}
+use Rattle.gfx_words.specs.Commands.{words_of, Fits}
+use Rattle.gfx_words.proofs.Ranges.{range_cut}
+
+one_range : (r s : FrameRange) → FitsRange r → FitsRange s → range_text r ≡ range_text s → s ≡ r
+one_range r s of_r of_s is =
+    let in_r = range_cut r of_r in
+    let in_s = range_cut s of_s in
+    let first : s.first ≡ r.first = decimal_injective s.first r.first of_s.first of_r.first (sym in_s.front_is ∙ ap (before_first (λ b. b == 45)) (sym is) ∙ in_r.front_is) in
+    let last : s.last ≡ r.last = decimal_injective s.last r.last of_s.last of_r.last (sym in_s.back_is ∙ ap (after_first (λ b. b == 45)) (sym is) ∙ in_r.back_is) in
+    ap (λ n. record { first = n; last = s.last }) first ∙ ap (λ n. record { first = r.first; last = n }) last
+
+-- the third letter of the first word
+abbrev letter : List (List ℕ) → ℕ
+letter words = get_or (get_or words 0 []) 2 0
+
+-- the word behind the first ones
+abbrev word_at : ℕ → List (List ℕ) → List ℕ
+word_at k words = get_or words k []
+
+one_replay : (p q : Bool) (r s : Option FrameRange) → Fits (Replay p r) → Fits (Replay q s) → words_of (Replay p r) ≡ words_of (Replay q s) → Replay q s ≡ Replay p r
+one_replay false false None None of_r of_s is = refl
+one_replay false true None None of_r of_s is = absurd (let n = ap length is in omega (arith, n))
+one_replay true false None None of_r of_s is = absurd (let n = ap length is in omega (arith, n))
+one_replay true true None None of_r of_s is = refl
+one_replay false false (Some r) None of_r of_s is = absurd (let n = ap length is in omega (arith, n))
+one_replay false true (Some r) None of_r of_s is = absurd (let n = ap length is in omega (arith, n))
+one_replay true false (Some r) None of_r of_s is = absurd (let n = ap length is in omega (arith, n))
+one_replay true true (Some r) None of_r of_s is = absurd (let n = ap length is in omega (arith, n))
+one_replay false false None (Some s) of_r of_s is = absurd (let n = ap length is in omega (arith, n))
+one_replay false true None (Some s) of_r of_s is = absurd (let n = ap length is in omega (arith, n))
+one_replay true false None (Some s) of_r of_s is = absurd (let n = ap length is in omega (arith, n))
+one_replay true true None (Some s) of_r of_s is = absurd (let n = ap length is in omega (arith, n))
+one_replay false false (Some r) (Some s) of_r of_s is = ap (λ x. Replay false (Some x)) (one_range r s of_r of_s (ap (word_at 2) is))
+one_replay false true (Some r) (Some s) of_r of_s is = absurd (let n = ap length is in omega (arith, n))
+one_replay true false (Some r) (Some s) of_r of_s is = absurd (let n = ap length is in omega (arith, n))
+one_replay true true (Some r) (Some s) of_r of_s is = ap (λ x. Replay true (Some x)) (one_range r s of_r of_s (ap (word_at 3) is))
+
+-- words that are those of two commands
+pub one_command : (c other : Command) → Fits c → Fits other → words_of c ≡ words_of other → other ≡ c
+one_command Info Info of_c of_other is = refl
+one_command Info (Replay q s) of_c of_other is = absurd (let n = ap letter is in omega (arith, n))
+one_command Info (Trim s) of_c of_other is = absurd (let n = ap letter is in omega (arith, n))
+one_command Info (Make m) of_c of_other is = absurd (let n = ap letter is in omega (arith, n))
+one_command Info Help of_c of_other is = absurd (let n = ap letter is in omega (arith, n))
+one_command Info Version of_c of_other is = absurd (let n = ap letter is in omega (arith, n))
+one_command (Replay p r) Info of_c of_other is = absurd (let n = ap letter is in omega (arith, n))
+one_command (Replay p r) (Replay q s) of_c of_other is = one_replay p q r s of_c of_other is
+one_command (Replay p r) (Trim s) of_c of_other is = absurd (let n = ap letter is in omega (arith, n))
+one_command (Replay p r) (Make m) of_c of_other is = absurd (let n = ap letter is in omega (arith, n))
+one_command (Replay p r) Help of_c of_other is = absurd (let n = ap letter is in omega (arith, n))
+one_command (Replay p r) Version of_c of_other is = absurd (let n = ap letter is in omega (arith, n))
+one_command (Trim r) Info of_c of_other is = absurd (let n = ap letter is in omega (arith, n))
+one_command (Trim r) (Replay q s) of_c of_other is = absurd (let n = ap letter is in omega (arith, n))
+one_command (Trim r) (Trim s) of_c of_other is = ap Trim (one_range r s of_c of_other (ap (word_at 1) is))
+one_command (Trim r) (Make m) of_c of_other is = absurd (let n = ap letter is in omega (arith, n))
+one_command (Trim r) Help of_c of_other is = absurd (let n = ap letter is in omega (arith, n))
+one_command (Trim r) Version of_c of_other is = absurd (let n = ap letter is in omega (arith, n))
+one_command (Make n) Info of_c of_other is = absurd (let n = ap letter is in omega (arith, n))
+one_command (Make n) (Replay q s) of_c of_other is = absurd (let n = ap letter is in omega (arith, n))
+one_command (Make n) (Trim s) of_c of_other is = absurd (let n = ap letter is in omega (arith, n))
+one_command (Make n) (Make m) of_c of_other is = ap Make (decimal_injective m n (omega (arith, of_other.1)) (omega (arith, of_c.1)) (sym (ap (word_at 1) is)))
+one_command (Make n) Help of_c of_other is = absurd (let n = ap letter is in omega (arith, n))
+one_command (Make n) Version of_c of_other is = absurd (let n = ap letter is in omega (arith, n))
+one_command Help Info of_c of_other is = absurd (let n = ap letter is in omega (arith, n))
+one_command Help (Replay q s) of_c of_other is = absurd (let n = ap letter is in omega (arith, n))
+one_command Help (Trim s) of_c of_other is = absurd (let n = ap letter is in omega (arith, n))
+one_command Help (Make m) of_c of_other is = absurd (let n = ap letter is in omega (arith, n))
+one_command Help Help of_c of_other is = refl
+one_command Help Version of_c of_other is = absurd (let n = ap letter is in omega (arith, n))
+one_command Version Info of_c of_other is = absurd (let n = ap letter is in omega (arith, n))
+one_command Version (Replay q s) of_c of_other is = absurd (let n = ap letter is in omega (arith, n))
+one_command Version (Trim s) of_c of_other is = absurd (let n = ap letter is in omega (arith, n))
+one_command Version (Make m) of_c of_other is = absurd (let n = ap letter is in omega (arith, n))
+one_command Version Help of_c of_other is = absurd (let n = ap letter is in omega (arith, n))
+one_command Version Version of_c of_other is = refl
+
+-- the command that words are found to name is the only one
+pub only_one : (words : List (List ℕ)) (found : Option Command) → IfSome found (λ c. (words ≡ words_of c) × Fits c)
+    → IfSome found (λ c. (other : Command) → Fits other → words ≡ words_of other → other ≡ c)
+only_one words None some = tt
+only_one words (Some c) some = λ other fits is. one_command c other some.1 fits (sym some.0 ∙ is)
