@@ -1,5 +1,5 @@
 -- How the counts follow the blocks, one at a time.
-use Rattle.std.proofs.Common.{◌≡◌, ℕ, ◌+◌, ◌<◌, ◌^◌, ◌==◌, true, false, add-zero, zero-add, ◌≤◌, List, [], ◌∷◌, length, Some, None, Ok, Err, Option, cond, Bool, subst, sym, ap, ◌∙◌, arith}
+use Rattle.std.proofs.Common.{◌≡◌, ℕ, ◌+◌, ◌<◌, ◌^◌, ◌==◌, true, false, add-zero, zero-add, ◌≤◌, List, [], ◌∷◌, ◌++◌, length, Some, None, Ok, Err, Option, cond, Bool, subst, sym, ap, ◌∙◌, arith}
 use Rattle.std.specs.Prelude.{count_by}
 use mir.Val.{bool_byte}
 use Rattle.std.proofs.lemmas.List.Sums.{sum_by-cons}
@@ -23,6 +23,8 @@ use Rattle.gfx_io.specs.Told.{IfTold}
 use Rattle.gfx_decode.specs.Decoding.{coming, Gives, GivesHeader, IsBlockAt, item_of, behind, start_of}
 use Rattle.gfx_cli.specs.declared.counts.Counts.{Counts}
 use Rattle.gfx_cli.specs.Counts.{one_if, with_block, CountsAll}
+use Rattle.gfx_decode.specs.Reading.{ReadsSome}
+use Rattle.std.proofs.KnownBytes.{Consumes-trans}
 
 -- ---- the counts with one block more
 
@@ -149,3 +151,7 @@ pub step_place : (blocks : ℕ) (stage : Stage) (raw : Raw) → StandsBehind blo
 step_place blocks Fresh raw stands = absurd stands
 step_place blocks (At minor at) raw stands = ap (λ n. n + 1) stands
 step_place blocks (Failed why) raw stands = absurd stands
+
+-- some bytes were read, and then some more
+pub reads_more : (a b c : Option (List ℕ)) → ReadsSome a b → ReadsSome b c → ReadsSome a c
+reads_more a b c (bytes, read) (more, came) = (bytes ++ more, Consumes-trans a b c bytes more read came)

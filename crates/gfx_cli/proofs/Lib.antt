@@ -1,5 +1,6 @@
 pub mod Counting
 pub mod Events
-pub mod Noting
-pub mod Printing
-pub mod Words
+pub mod Building
+pub mod Ending
+pub mod Telling
+pub mod Deciding

@@ -1,13 +1,33 @@
--- How the blocks of a file end.
-use Rattle.std.specs.Prelude.{◌≡◌, ℕ, List, []}
-use Rattle.gfx_types.specs.declared.names.Fault.{Fault}
-use Rattle.gfx_model.specs.Blocks.{clean, bad}
-use Rattle.gfx_grammar.specs.Splitting.{blocks_of}
+-- How a command ends, over the bytes that the source had left and has left.
+use Rattle.std.specs.Prelude.{◌≡◌, ℕ, List, [], ◌++◌, Option, Result, Ok, Err}
+use Rattle.std.specs.Io.KnownBytes.{Appends}
+use Rattle.gfx_io.specs.Pieces.{AppendsPart}
+use Rattle.gfx_words.specs.declared.command.Command.{Command}
+use Rattle.gfx_cli.specs.declared.stop.Stop.{Stop}
+use Rattle.gfx_cli.specs.declared.stop.Stop.TheVariants.{WantMemory, BadFile, NoSuchFrame, ReadFault, WriteFault}
+use Rattle.gfx_cli.specs.Commands.{IsGood, IsBad, LacksFrame, Leaves, text_by, text_before}
 
--- the blocks end cleanly, and all was read
-abbrev pub EndsClean : List ℕ → List ℕ → Type 0
-EndsClean bytes rest = ((blocks_of bytes).end ≡ clean) × (rest ≡ [])
+-- all was written
+pub record IsDone (c : Command) (before after : Option (List ℕ)) (bytes left : List ℕ) : Type 0 where
+  pub good : IsGood c bytes
+  pub leaves : Leaves c bytes left
+  pub text : Appends before after (text_by c bytes)
 
--- the blocks end at this fault
-abbrev pub IsBadAt : Fault → ℕ → ℕ → List ℕ → Type 0
-IsBadAt fault block offset bytes = (blocks_of bytes).end ≡ bad fault block offset
+-- what stands before the place where reading stopped was written
+pub record IsCutOff (c : Command) (before after : Option (List ℕ)) (bytes left : List ℕ) : Type 0 where
+  pub read : List ℕ
+  pub parts : bytes ≡ read ++ left
+  pub text : Appends before after (text_before c read)
+
+-- why a command stopped, and what it wrote by then
+abbrev pub Stops : Command → Option (List ℕ) → Option (List ℕ) → Stop → List ℕ → List ℕ → Type 0
+Stops c before after (BadFile fault block offset) bytes left = IsBad c fault block offset bytes × Appends before after (text_before c bytes)
+Stops c before after (NoSuchFrame first last) bytes left = LacksFrame c first last bytes × Appends before after (text_before c bytes)
+Stops c before after ReadFault bytes left = IsCutOff c before after bytes left
+Stops c before after WriteFault bytes left = AppendsPart before after (text_by c bytes)
+Stops c before after WantMemory bytes left = AppendsPart before after (text_by c bytes)
+
+-- how a command ends
+abbrev pub Ends : Command → Option (List ℕ) → Option (List ℕ) → Result Unit Stop → List ℕ → List ℕ → Type 0
+Ends c before after (Ok done) bytes left = IsDone c before after bytes left
+Ends c before after (Err stop) bytes left = Stops c before after stop bytes left

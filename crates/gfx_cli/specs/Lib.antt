@@ -1,7 +1,8 @@
+pub mod Text
 pub mod Counts
-pub mod Ends
-pub mod Run
+pub mod Commands
+pub mod Words
 pub mod Status
 pub mod Stop
-pub mod Text
-pub mod Words
+pub mod Ends
+pub mod Run

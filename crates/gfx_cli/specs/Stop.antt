@@ -1,29 +1,41 @@
--- Why a command ends early, by what it was handed.
-use Rattle.std.specs.Prelude.{ℕ, List, IfSome, ⊤}
-use Rattle.std.specs.declared.option.Option.{Option}
-use Rattle.gfx_io.specs.Causes.{Rose}
+-- Why a command stops: its status, its line, and where the reason comes from.
+use Rattle.std.specs.Prelude.{ℕ, List, []}
 use Rattle.gfx_decode.specs.declared.fault.DecodeFault.{DecodeFault}
-use Rattle.gfx_decode.specs.declared.fault.DecodeFault.TheVariants.{Bad, ReadFault as FailedRead, WantMemory as NoMemory}
+use Rattle.gfx_decode.specs.declared.fault.DecodeFault.TheVariants as decoder
+use Rattle.gfx_play.specs.declared.fault.ShowFault.{ShowFault}
+use Rattle.gfx_play.specs.declared.fault.ShowFault.TheVariants as show
+use Rattle.gfx_cli.specs.declared.status.Status.{Status}
+use Rattle.gfx_cli.specs.declared.status.Status.TheVariants as status
 use Rattle.gfx_cli.specs.declared.stop.Stop.{Stop}
-use Rattle.gfx_cli.specs.declared.stop.Stop.TheVariants.{WantMemory, Usage, BadFile, ReadFault, WriteFault}
-use Rattle.gfx_cli.specs.Ends.{IsBadAt}
-use Rattle.gfx_cli.specs.Words.{IsInfo}
+use Rattle.gfx_cli.specs.declared.stop.Stop.TheVariants.{WantMemory, BadFile, NoSuchFrame, ReadFault, WriteFault}
+use Rattle.gfx_cli.specs.Text.{bad_block_line, no_such_frame_line, read_fault_line}
 
 -- a decoder's fault, as a command hands it on
-abbrev pub stop_of : DecodeFault → Stop
-stop_of (Bad fault block offset) = BadFile fault block offset
-stop_of FailedRead = ReadFault
-stop_of NoMemory = WantMemory
+abbrev pub of_decoder : DecodeFault → Stop
+of_decoder (decoder.Bad fault block offset) = BadFile fault block offset
+of_decoder decoder.ReadFault = ReadFault
+of_decoder decoder.WantMemory = WantMemory
 
--- how often a source or a sink had failed before a call, and after it
-pub record Failures : Type 0 where
-  pub before : ℕ
-  pub now : ℕ
+-- a fault of showing frames, as a command hands it on
+abbrev pub of_show : ShowFault → Stop
+of_show (show.Bad fault block offset) = BadFile fault block offset
+of_show (show.NoSuchFrame first last) = NoSuchFrame first last
+of_show show.ReadFault = ReadFault
+of_show show.SinkFault = WriteFault
+of_show show.WantMemory = WantMemory
 
--- a command stops so only for this reason, over these words and the bytes that the source had left
-abbrev pub IsCause : List (List ℕ) → Option (List ℕ) → Failures → Failures → Stop → Type 0
-IsCause words left reads writes WantMemory = ⊤
-IsCause words left reads writes Usage = IsInfo words → ⊥
-IsCause words left reads writes (BadFile fault block offset) = IfSome left (IsBadAt fault block offset)
-IsCause words left reads writes ReadFault = Rose reads.before reads.now
-IsCause words left reads writes WriteFault = Rose writes.before writes.now
+-- the status with which the program ends
+abbrev pub status_of : Stop → Status
+status_of (BadFile fault block offset) = status.BadFile
+status_of (NoSuchFrame first last) = status.NoSuchFrame
+status_of ReadFault = status.ReadFault
+status_of WriteFault = status.WriteFault
+status_of WantMemory = status.WantMemory
+
+-- the line in the notes, if there is one
+abbrev pub line_of : Stop → List ℕ
+line_of (BadFile fault block offset) = bad_block_line fault block offset
+line_of (NoSuchFrame first last) = no_such_frame_line first last
+line_of ReadFault = read_fault_line
+line_of WriteFault = []
+line_of WantMemory = []

@@ -2,6 +2,7 @@
 ghost use Rattle.std.specs.Prelude.{◌≡◌, ◌<◌, ◌≤◌, ◌+◌, ◌^◌, ◌==◌, ℕ, IfOk, IfSome, Some, string_bytes};
 ghost use Rattle.gfx_io.specs.Causes.{Rose};
 ghost use Rattle.gfx_io.specs.Told.{IfTold};
+ghost use Rattle.gfx_decode.specs.Reading.{ReadsSome};
 ghost use Rattle.gfx_blocks.specs.Payloads.{content_of};
 ghost use Rattle.gfx_model.specs.Events.{event_of, event_of_call};
 ghost use Rattle.gfx_model.specs.Blocks.{effect as in_file};
@@ -93,6 +94,7 @@ impl Counts {
 /// Counts all blocks of a source.
 pub fn count<S: Source>(alloc: Global, source: &mut S) -> Result<Counts, DecodeFault>
     ensures told { IfTold (S.left source.old) (S.left source.new) (CountsAll result) }
+    ensures reads { ReadsSome (S.left source.old) (S.left source.new) }
     ensures later { S.faults source.old ≤ S.faults source.new }
     ensures cause { result ≡ Err DecodeFault.ReadFault → Rose (S.faults source.old) (S.faults source.new) }
 {

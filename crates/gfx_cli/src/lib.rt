@@ -1,8 +1,10 @@
 //! The commands of the program, over a source and two sinks.
 #![tactic(auto)]
 
-mod command;
+mod commands;
 mod counts;
+mod info;
+mod notes;
 mod run;
 mod status;
 mod stop;

@@ -1,10 +1,11 @@
 // Why a command ends before its work is done.
 ghost use Rattle.std.specs.Prelude.{◌≡◌};
 ghost use Rattle.gfx_cli.specs.declared.stop.Stop.TheVariants.{WantMemory as NoMemory, WriteFault as NotWritten};
-ghost use Rattle.gfx_cli.specs.Stop.{stop_of};
+ghost use Rattle.gfx_cli.specs.Stop.{of_decoder, of_show};
 
 use gfx_decode::DecodeFault;
 use gfx_io::Failed;
+use gfx_play::ShowFault;
 use gfx_types::Fault;
 use std::alloc::AllocError;
 
@@ -12,18 +13,21 @@ use std::alloc::AllocError;
 #[derive(Clone, Copy, Debug, PartialEq, Eq)]
 pub enum Stop {
     WantMemory,
-    Usage,
     BadFile {
         fault: Fault,
         block: u64,
         offset: u64,
+    },
+    NoSuchFrame {
+        first: u64,
+        last: u64,
     },
     ReadFault,
     WriteFault,
 }
 
 impl From<DecodeFault> for Stop {
-    ghost from_gives = { λ fault stop. stop ≡ stop_of fault };
+    ghost from_gives = { λ fault stop. stop ≡ of_decoder fault };
 
     fn from(fault: DecodeFault) -> Self {
         match fault {
@@ -38,6 +42,28 @@ impl From<DecodeFault> for Stop {
             },
             DecodeFault::ReadFault => Stop::ReadFault,
             DecodeFault::WantMemory => Stop::WantMemory,
+        }
+    }
+}
+
+impl From<ShowFault> for Stop {
+    ghost from_gives = { λ fault stop. stop ≡ of_show fault };
+
+    fn from(fault: ShowFault) -> Self {
+        match fault {
+            ShowFault::Bad {
+                fault,
+                block,
+                offset,
+            } => Stop::BadFile {
+                fault,
+                block,
+                offset,
+            },
+            ShowFault::NoSuchFrame { first, last } => Stop::NoSuchFrame { first, last },
+            ShowFault::ReadFault => Stop::ReadFault,
+            ShowFault::SinkFault => Stop::WriteFault,
+            ShowFault::WantMemory => Stop::WantMemory,
         }
     }
 }

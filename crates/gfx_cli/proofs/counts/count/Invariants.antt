@@ -1,6 +1,7 @@
 use Rattle.std.proofs.Common.{◌≤◌}
 use Rattle.gfx_io.specs.Told.{IfTold}
 use Rattle.gfx_decode.specs.Decoding.{coming}
+use Rattle.gfx_decode.specs.Reading.{ReadsSome}
 use Rattle.gfx_decode.specs.Reachable.{blocks_ahead}
 use Rattle.gfx_cli.proofs.Counting.{IsSplit, StandsBehind}
 use Rattle.gfx_cli.proofs.counts.count.Given as goal
@@ -15,6 +16,7 @@ invariant-loop-buffer g l =
       calls : l.counts.calls ≤ l.counts.blocks;
       frames : l.counts.frames ≤ l.counts.blocks;
       later : source.faults l.fn.source ≤ source.faults l.source;
+      reads : ReadsSome (source.left l.fn.source) (source.left l.source);
     }
 
 abbrev pub decreases-loop-buffer : goal.decreases-loop-buffer

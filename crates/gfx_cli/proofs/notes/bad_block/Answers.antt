@@ -1,7 +1,7 @@
 use Rattle.std.proofs.Common.{append_assoc, ◌∙◌}
 use Rattle.std.proofs.lemmas.Result.{IfOk-weaker}
 use Rattle.gfx_cli.specs.Text.{bad_block_line}
-use Rattle.gfx_cli.proofs.run.bad_block.Goals as goal
+use Rattle.gfx_cli.proofs.notes.bad_block.Goals as goal
 
 pub returns : goal.returns
 unfolding bad_block_line

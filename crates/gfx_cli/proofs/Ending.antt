@@ -1,0 +1,111 @@
+-- How a command ends, by what was read and written.
+use Rattle.std.proofs.Common.{◌≡◌, ◌⊎◌, inl, inr, ℕ, ◌≤◌, List, [], ◌++◌, length, Option, Some, None, Result, Ok, Err, Bool, refl, sym, ap, subst, ◌∙◌, append_assoc, arith}
+use Rattle.std.specs.Prelude.{decimal, codes, OnOk, IfErr}
+use Rattle.gfx_io.specs.Told.{IfTold}
+use Rattle.std.specs.Io.KnownBytes.{Appends}
+use Rattle.gfx_io.specs.Pieces.{AppendsPart}
+use Rattle.gfx_model.specs.Blocks.{End, minor_of}
+use Rattle.gfx_model.specs.Blocks.End.{clean, bad}
+use Rattle.gfx_model.specs.Text as model
+use Rattle.gfx_grammar.specs.Splitting.{blocks_of}
+use Rattle.gfx_frames.proofs.Appending.{appends_none, part_of, whole_part}
+use Rattle.gfx_decode.specs.declared.fault.DecodeFault.{DecodeFault}
+use Rattle.gfx_decode.specs.declared.fault.DecodeFault.TheVariants as decoder
+use Rattle.gfx_words.specs.declared.range.FrameRange.{FrameRange}
+use Rattle.gfx_words.specs.declared.command.Command.{Command}
+use Rattle.gfx_words.specs.declared.command.Command.TheVariants.{Info, Replay, Trim, Make, Help, Version}
+use Rattle.gfx_play.specs.declared.fault.ShowFault.{ShowFault}
+use Rattle.gfx_play.specs.declared.fault.ShowFault.TheVariants as show
+use Rattle.gfx_play.specs.Screens.{lines_of}
+use Rattle.gfx_play.specs.Shows.{Answers, lines_in, text_in}
+use Rattle.gfx_cli.specs.declared.counts.Counts.{Counts}
+use Rattle.gfx_cli.specs.declared.stop.Stop.{Stop}
+use Rattle.gfx_cli.specs.declared.stop.Stop.TheVariants.{WantMemory, BadFile, NoSuchFrame, ReadFault, WriteFault}
+use Rattle.gfx_cli.specs.Commands.{IsGood, Leaves, asked_by, text_by, text_before}
+use Rattle.gfx_cli.specs.Counts.{CountsAll, IsCountOf}
+use Rattle.gfx_cli.specs.Ends.{Ends, IsCutOff, IsDone, Stops}
+use Rattle.gfx_cli.specs.Stop.{of_decoder, of_show}
+use Rattle.gfx_cli.specs.Text.{at_clean, counts_text, info_text, line_feed}
+
+-- ---- `info`
+
+pub nothing_written : (taken : Option (List ℕ)) (text : List ℕ) → AppendsPart taken taken text
+nothing_written taken text = part_of taken taken [] text (whole_part taken taken [] (appends_none taken))
+
+-- the file was not counted, and nothing was written
+pub info_fails : (taken : Option (List ℕ)) (why : DecodeFault) (all rest bytes : List ℕ) → CountsAll (Err why) all rest → all ≡ bytes ++ rest
+    → Stops Info taken taken (of_decoder why) all rest
+info_fails taken (decoder.Bad fault block offset) all rest bytes end is = (end, appends_none taken)
+info_fails taken decoder.ReadFault all rest bytes end is = record { read = bytes; parts = is; text = appends_none taken }
+info_fails taken decoder.WantMemory all rest bytes end is = nothing_written taken (info_text all)
+
+-- four lines, in the order in which they are written
+four_lines : (v m t b s k c l f e : List ℕ) → v ++ m ++ e ++ (t ++ s) ++ b ++ e ++ (k ++ s) ++ c ++ e ++ (l ++ s) ++ f ++ e
+    ≡ ((v ++ m) ++ e) ++ ((t ++ s ++ b) ++ e) ++ ((k ++ s ++ c) ++ e) ++ ((l ++ s ++ f) ++ e)
+four_lines v m t b s k c l f e = simp append_assoc
+
+lines_of_counts : (m b c f : ℕ) → counts_text (record { minor = m; blocks = b; calls = c; frames = f })
+    ≡ model.line (codes "version 1000." ++ decimal m) ++ model.count_line (codes "blocks") b ++ model.count_line (codes "calls") c ++ model.count_line (codes "frames") f
+unfolding counts_text
+lines_of_counts m b c f = four_lines (codes "version 1000.") (decimal m) (codes "blocks") (decimal b) (codes " ") (codes "calls") (decimal c) (codes "frames") (decimal f) line_feed
+
+pub counted_text : (counts : Counts) (all rest : List ℕ) → CountsAll (Ok counts) all rest → counts_text counts ≡ info_text all
+counted_text counts all rest (are, end, none) =
+    lines_of_counts counts.minor counts.blocks counts.calls counts.frames
+    ∙ rw (are.minor, are.blocks, are.calls, are.frames) refl
+    ∙ ap (λ e. at_clean e (model.counts_text (minor_of all) (blocks_of all).items)) (sym end)
+
+pub info_done : (counts : Counts) (before after : Option (List ℕ)) (all rest : List ℕ) → CountsAll (Ok counts) all rest → Appends before after (counts_text counts) → IsDone Info before after all rest
+info_done counts before after all rest told text = record { good = told.1; leaves = told.2; text = subst (Appends before after) (counted_text counts all rest told) text }
+
+pub info_part : (counts : Counts) (before after : Option (List ℕ)) (all rest : List ℕ) → CountsAll (Ok counts) all rest → AppendsPart before after (counts_text counts) → AppendsPart before after (info_text all)
+info_part counts before after all rest told text = subst (AppendsPart before after) (counted_text counts all rest told) text
+
+-- ---- `replay`
+
+pub replay_fails : (why : ShowFault) (pixels : Bool) (frames : Option FrameRange) (before after : Option (List ℕ)) (all rest : List ℕ)
+    → Answers (asked_by frames) pixels before after (Err why) all rest → Stops (Replay pixels frames) before after (of_show why) all rest
+replay_fails (show.Bad fault block offset) pixels frames before after all rest is = ((is.end, is.unseen), is.text)
+replay_fails (show.NoSuchFrame first last) pixels frames before after all rest is =
+    (record { range = is.range; end = is.end; unseen = is.unseen; first_is = is.first_is; last_is = is.last_is }, is.text)
+replay_fails show.ReadFault pixels frames before after all rest is = record { read = is.given; parts = is.parts; text = is.text }
+replay_fails show.SinkFault pixels frames before after all rest is = is
+replay_fails show.WantMemory pixels frames before after all rest is = is
+
+pub replay_done : (pixels : Bool) (frames : Option FrameRange) (before after : Option (List ℕ)) (all rest : List ℕ)
+    → Answers (asked_by frames) pixels before after (Ok tt) all rest → IsDone (Replay pixels frames) before after all rest
+replay_done pixels frames before after all rest is = record { good = is.0.complete; leaves = is.1; text = is.0.text }
+
+-- ---- a text that needs no file
+
+pub text_ends : (c : Command) (before after : Option (List ℕ)) (r : Result Unit Stop) (text bytes : List ℕ) (cause : Type 0) → IsGood c bytes → Leaves c bytes bytes → text ≡ text_by c bytes
+    → OnOk r (Appends before after text) → AppendsPart before after text → IfErr r (λ why. (why ≡ WriteFault) × cause) → Ends c before after r bytes bytes
+text_ends c before after (Ok done) text bytes cause good leaves is whole part why = record { good = good; leaves = leaves; text = subst (Appends before after) is whole }
+text_ends c before after (Err stop) text bytes cause good leaves is whole part why = subst (λ s. Stops c before after s bytes bytes) (sym why.0) (subst (AppendsPart before after) is part)
+
+pub told_same : (a : Option (List ℕ)) (P : List ℕ → List ℕ → Type 0) → ((x : List ℕ) → P x x) → IfTold a a P
+told_same None P each = tt
+told_same (Some x) P each = each x
+
+-- ---- a front of what a command writes
+
+lines_first : (pixels : Bool) (frames : Option FrameRange) (before after : Option (List ℕ)) (bytes : List ℕ) → Appends before after (lines_in (asked_by frames) pixels bytes) → AppendsPart before after (text_in (asked_by frames) pixels bytes)
+unfolding lines_of
+lines_first pixels frames before after bytes text = part_of before after (lines_in (asked_by frames) pixels bytes) _ (whole_part before after (lines_in (asked_by frames) pixels bytes) text)
+
+text_first : (c : Command) (before after : Option (List ℕ)) (bytes : List ℕ) → Appends before after (text_before c bytes) → AppendsPart before after (text_by c bytes)
+text_first Info before after bytes text = part_of before after [] (info_text bytes) (whole_part before after [] text)
+text_first (Replay pixels frames) before after bytes text = lines_first pixels frames before after bytes text
+text_first (Trim r) before after bytes text = whole_part before after [] text
+text_first (Make n) before after bytes text = whole_part before after [] text
+text_first Help before after bytes text = part_of before after [] (text_by Help bytes) (whole_part before after [] text)
+text_first Version before after bytes text = part_of before after [] (text_by Version bytes) (whole_part before after [] text)
+
+pub front_of : (c : Command) (before after : Option (List ℕ)) (end : Result Unit Stop) (all rest : List ℕ) → Ends c before after end all rest
+    → AppendsPart before after (text_by c all) ⊎ IsCutOff c before after all rest
+front_of c before after (Ok done) all rest is = inl (whole_part before after (text_by c all) is.text)
+front_of c before after (Err (BadFile fault block offset)) all rest is = inl (text_first c before after all is.1)
+front_of c before after (Err (NoSuchFrame first last)) all rest is = inl (text_first c before after all is.1)
+front_of c before after (Err ReadFault) all rest is = inr is
+front_of c before after (Err WriteFault) all rest is = inl is
+front_of c before after (Err WantMemory) all rest is = inl is

@@ -1,0 +1,76 @@
+-- What a status tells of the stop behind it.
+use Rattle.std.proofs.Common.{◌≡◌, ◌≢◌, ◌⊎◌, inl, inr, ℕ, List, refl, sym, ◌∙◌}
+use Rattle.gfx_types.specs.declared.names.Fault.{Fault}
+use Rattle.gfx_cli.specs.declared.status.Status.{Status}
+use Rattle.gfx_cli.specs.declared.status.Status.TheVariants as status
+use Rattle.gfx_cli.specs.declared.stop.Stop.{Stop}
+use Rattle.gfx_cli.specs.declared.stop.Stop.TheVariants.{WantMemory, BadFile, NoSuchFrame, ReadFault, WriteFault}
+use Rattle.gfx_cli.specs.Run.{IsBuiltStatus}
+use Rattle.gfx_cli.specs.Stop.{status_of, line_of}
+use Rattle.gfx_cli.specs.Text.{bad_block_line, no_such_frame_line, read_fault_line}
+
+-- a stop was told, or memory was wanting, or the write failed
+abbrev pub IsToldBy : Status → Status → Type 0 → Type 0 → Type 0 → Type 0
+IsToldBy result wanted line same failed = ((result ≡ wanted) × line) ⊎ (((result ≡ status.WantMemory) × same) ⊎ ((result ≡ status.WriteFault) × failed))
+
+-- a status of its own comes from the stop
+pub status_tells : (result wanted found : Status) (line same failed : Type 0) → IsToldBy result wanted line same failed → result ≡ found
+    → found ≢ status.WantMemory → found ≢ status.WriteFault → (wanted ≡ found) × line
+status_tells result wanted found line same failed (inl is) so memory written = (sym is.0 ∙ so, is.1)
+status_tells result wanted found line same failed (inr (inl is)) so memory written = absurd (memory (sym so ∙ is.0))
+status_tells result wanted found line same failed (inr (inr is)) so memory written = absurd (written (sym so ∙ is.0))
+
+-- where no write failed, a stop is told or memory was wanting
+pub told_or_wanting : (result wanted : Status) (line same failed : Type 0) → IsToldBy result wanted line same failed → ¬ failed → (result ≡ status.WantMemory) ⊎ ((result ≡ wanted) × line)
+told_or_wanting result wanted line same failed (inl is) none = inr is
+told_or_wanting result wanted line same failed (inr (inl is)) none = inl is.0
+told_or_wanting result wanted line same failed (inr (inr is)) none = absurd (none is.1)
+
+pub bad_told : (Run : Stop → Type 0) (Line : List ℕ → Type 0) (stop : Stop) → status_of stop ≡ status.BadFile → Run stop → Line (line_of stop)
+    → (fault : Fault) × (block : ℕ) × (offset : ℕ) × Run (BadFile fault block offset) × Line (bad_block_line fault block offset)
+bad_told Run Line (BadFile fault block offset) is run line = (fault, block, offset, run, line)
+bad_told Run Line (NoSuchFrame first last) is run line = absurd cc
+bad_told Run Line ReadFault is run line = absurd cc
+bad_told Run Line WriteFault is run line = absurd cc
+bad_told Run Line WantMemory is run line = absurd cc
+
+pub lack_told : (Run : Stop → Type 0) (Line : List ℕ → Type 0) (stop : Stop) → status_of stop ≡ status.NoSuchFrame → Run stop → Line (line_of stop)
+    → (first : ℕ) × (last : ℕ) × Run (NoSuchFrame first last) × Line (no_such_frame_line first last)
+lack_told Run Line (BadFile fault block offset) is run line = absurd cc
+lack_told Run Line (NoSuchFrame first last) is run line = (first, last, run, line)
+lack_told Run Line ReadFault is run line = absurd cc
+lack_told Run Line WriteFault is run line = absurd cc
+lack_told Run Line WantMemory is run line = absurd cc
+
+pub read_told : (Run : Stop → Type 0) (Line : List ℕ → Type 0) (stop : Stop) → status_of stop ≡ status.ReadFault → Run stop → Line (line_of stop)
+    → (stop ≡ ReadFault) × Run ReadFault × Line read_fault_line
+read_told Run Line (BadFile fault block offset) is run line = absurd cc
+read_told Run Line (NoSuchFrame first last) is run line = absurd cc
+read_told Run Line ReadFault is run line = (refl, run, line)
+read_told Run Line WriteFault is run line = absurd cc
+read_told Run Line WantMemory is run line = absurd cc
+
+-- a failed write is one of the command, or of the line
+pub write_told : (stop : Stop) → status_of stop ≡ status.WriteFault → stop ≡ WriteFault
+write_told (BadFile fault block offset) is = absurd cc
+write_told (NoSuchFrame first last) is = absurd cc
+write_told ReadFault is = absurd cc
+write_told WriteFault is = refl
+write_told WantMemory is = absurd cc
+
+-- neither done nor a faulty command line
+pub stop_status : (stop : Stop) → (status_of stop ≢ status.Done) × (status_of stop ≢ status.Usage)
+stop_status (BadFile fault block offset) = (λ e. absurd cc, λ e. absurd cc)
+stop_status (NoSuchFrame first last) = (λ e. absurd cc, λ e. absurd cc)
+stop_status ReadFault = (λ e. absurd cc, λ e. absurd cc)
+stop_status WriteFault = (λ e. absurd cc, λ e. absurd cc)
+stop_status WantMemory = (λ e. absurd cc, λ e. absurd cc)
+
+pub stop_is_built : (stop : Stop) (result : Status) (line same failed : Type 0) → IsToldBy result (status_of stop) line same failed → IsBuiltStatus result
+stop_is_built (BadFile fault block offset) result line same failed (inl is) = rw is.0 tt
+stop_is_built (NoSuchFrame first last) result line same failed (inl is) = rw is.0 tt
+stop_is_built ReadFault result line same failed (inl is) = rw is.0 tt
+stop_is_built WriteFault result line same failed (inl is) = rw is.0 tt
+stop_is_built WantMemory result line same failed (inl is) = rw is.0 tt
+stop_is_built stop result line same failed (inr (inl is)) = rw is.0 tt
+stop_is_built stop result line same failed (inr (inr is)) = rw is.0 tt

@@ -1,0 +1,91 @@
+-- What each command asks of a file, and what it writes.
+use Rattle.std.specs.Prelude.{◌≡◌, ℕ, false, List, [], ◌++◌, Option, Some, None, codes, ⊤}
+use Rattle.std.specs.List.{list_any}
+use Rattle.gfx_types.specs.declared.names.Fault.{Fault}
+use Rattle.gfx_model.specs.Blocks.{clean, bad}
+use Rattle.gfx_grammar.specs.Splitting.{blocks_of}
+use Rattle.gfx_words.specs.declared.range.FrameRange.{FrameRange}
+use Rattle.gfx_words.specs.declared.command.Command.{Command}
+use Rattle.gfx_words.specs.declared.command.Command.TheVariants.{Info, Replay, Trim, Make, Help, Version}
+use Rattle.gfx_play.specs.declared.asked.Asked.{Asked}
+use Rattle.gfx_play.specs.declared.asked.Asked.TheVariants.{All, Between}
+use Rattle.gfx_play.specs.Asked.{has_last}
+use Rattle.gfx_play.specs.Meanings.{frames_in, end_of}
+use Rattle.gfx_play.specs.Shows as play
+use Rattle.gfx_cli.specs.Text.{info_text, help_text, version_line}
+
+-- the commands that are built
+abbrev pub IsBuilt : Command → Type 0
+IsBuilt Info = ⊤
+IsBuilt (Replay pixels frames) = ⊤
+IsBuilt (Trim r) = ⊥
+IsBuilt (Make n) = ⊥
+IsBuilt Help = ⊤
+IsBuilt Version = ⊤
+
+-- the frames that the words ask for
+abbrev pub asked_by : Option FrameRange → Asked
+asked_by None = All
+asked_by (Some r) = Between r.first r.last
+
+-- a file has all that the command asks for
+abbrev pub IsGood : Command → List ℕ → Type 0
+IsGood Info bytes = (blocks_of bytes).end ≡ clean
+IsGood (Replay pixels frames) bytes = play.IsComplete (asked_by frames) bytes
+IsGood (Trim r) bytes = ⊥
+IsGood (Make n) bytes = ⊥
+IsGood Help bytes = ⊤
+IsGood Version bytes = ⊤
+
+-- the first bad block is within what the command reads, and this is it
+abbrev pub IsBad : Command → Fault → ℕ → ℕ → List ℕ → Type 0
+IsBad Info fault block offset bytes = (blocks_of bytes).end ≡ bad fault block offset
+IsBad (Replay pixels frames) fault block offset bytes = (end_of bytes ≡ bad fault block offset) × (has_last (asked_by frames) (frames_in bytes) ≡ false)
+IsBad (Trim r) fault block offset bytes = ⊥
+IsBad (Make n) fault block offset bytes = ⊥
+IsBad Help fault block offset bytes = ⊥
+IsBad Version fault block offset bytes = ⊥
+
+-- a file ends cleanly without a frame of a range, and has these
+pub record HasOnly (asked : Asked) (first last : ℕ) (bytes : List ℕ) : Type 0 where
+  pub range : play.IsRange asked
+  pub end : end_of bytes ≡ clean
+  pub unseen : has_last asked (frames_in bytes) ≡ false
+  pub first_is : first ≡ play.first_in bytes
+  pub last_is : last ≡ play.last_in bytes
+
+-- a frame that the command asks for isn't in the file, which has these
+abbrev pub LacksFrame : Command → ℕ → ℕ → List ℕ → Type 0
+LacksFrame Info first last bytes = ⊥
+LacksFrame (Replay pixels frames) first last bytes = HasOnly (asked_by frames) first last bytes
+LacksFrame (Trim r) first last bytes = ⊥
+LacksFrame (Make n) first last bytes = ⊥
+LacksFrame Help first last bytes = ⊥
+LacksFrame Version first last bytes = ⊥
+
+-- what the command writes, where the file has all that it asks for
+abbrev pub text_by : Command → List ℕ → List ℕ
+text_by Info bytes = info_text bytes
+text_by (Replay pixels frames) bytes = play.text_in (asked_by frames) pixels bytes
+text_by (Trim r) bytes = []
+text_by (Make n) bytes = []
+text_by Help bytes = help_text
+text_by Version bytes = version_line
+
+-- what it writes before a bad block, or before the end of a file without a frame that it asks for
+abbrev pub text_before : Command → List ℕ → List ℕ
+text_before Info bytes = []
+text_before (Replay pixels frames) bytes = play.lines_in (asked_by frames) pixels bytes
+text_before (Trim r) bytes = []
+text_before (Make n) bytes = []
+text_before Help bytes = []
+text_before Version bytes = []
+
+-- what it leaves of a file that has all that it asks for
+abbrev pub Leaves : Command → List ℕ → List ℕ → Type 0
+Leaves Info bytes left = left ≡ []
+Leaves (Replay pixels frames) bytes left = play.Leaves (asked_by frames) bytes left
+Leaves (Trim r) bytes left = ⊥
+Leaves (Make n) bytes left = ⊥
+Leaves Help bytes left = left ≡ bytes
+Leaves Version bytes left = left ≡ bytes

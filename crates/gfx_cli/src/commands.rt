@@ -1,0 +1,108 @@
+// What each command reads and writes.
+ghost use Rattle.std.specs.Prelude.{◌≡◌, ◌≤◌, true, false, Err, IfSome, IfErr, OnOk, IsNone, map, string_bytes};
+ghost use Rattle.std.specs.Io.KnownBytes.{Appends};
+ghost use Rattle.gfx_io.specs.Causes.{Rose};
+ghost use Rattle.gfx_io.specs.Pieces.{AppendsPart};
+ghost use Rattle.gfx_io.specs.Told.{IfTold};
+ghost use Rattle.gfx_cli.specs.Commands.{IsBuilt, asked_by};
+ghost use Rattle.gfx_cli.specs.Ends.{Ends};
+ghost use Rattle.gfx_cli.specs.Words.{IsNamed, IsOutside, IsOnly};
+ghost use Rattle.gfx_words.specs.declared.command.Command.TheVariants.{Replay};
+
+use crate::Stop;
+use crate::info::write_counts;
+use gfx_io::{Sink, Source, write_whole};
+use gfx_play::{Asked, show_frames};
+use gfx_words::{Command, FrameRange};
+use std::alloc::Global;
+
+const HELP: &str = "usage: gfxcap info; replay [--pixels] [--frames A-B]; trim A-B; capture [--frames A-B]; make N
+A capture is read from standard input, and frames A to B are those with these numbers.
+info describes it, replay writes a line with the digest of each frame, with --pixels its rows too.
+--help and --version alone write this text and the version.
+";
+
+const VERSION: &str = "gfxcap 0.1.0\n";
+
+/// The command that the words name, where it is built.
+pub(crate) fn built_command(words: &[String]) -> Option<Command>
+    ensures some { IfSome result (IsNamed (map string_bytes words.now)) }
+    ensures only { IfSome result (IsOnly (map string_bytes words.now)) }
+    ensures none { IsNone result → IsOutside (map string_bytes words.now) }
+{
+    let command = Command::of(words)?;
+    if is_built(command) { Some(command) } else { None }
+}
+
+/// Whether a command is built.
+fn is_built(command: Command) -> bool
+    ensures yes { result ≡ true → IsBuilt command }
+    ensures no { result ≡ false → ¬ IsBuilt command }
+{
+    match command {
+        Command::Trim(_) => false,
+        Command::Make { .. } => false,
+        _ => true,
+    }
+}
+
+/// The frames that the words ask for.
+fn asked_by(frames: Option<FrameRange>) -> Asked
+    ensures { result ≡ asked_by frames }
+{
+    match frames {
+        Some(FrameRange { first, last }) => Asked::Between { first, last },
+        None => Asked::All,
+    }
+}
+
+/// Writes the lines of the frames that are asked for.
+fn replay<S: Source, K: Sink>(
+    alloc: Global,
+    pixels: bool,
+    frames: Option<FrameRange>,
+    source: &mut S,
+    sink: &mut K,
+) -> Result<(), Stop>
+    ensures ends { IfTold (S.left source.old) (S.left source.new) (Ends (Replay pixels frames) (K.taken sink.old) (K.taken sink.new) result) }
+    ensures read_fault { result ≡ Err Stop.ReadFault → Rose (S.faults source.old) (S.faults source.new) }
+    ensures write_fault { result ≡ Err Stop.WriteFault → Rose (K.faults sink.old) (K.faults sink.new) }
+    ensures later { (S.faults source.old ≤ S.faults source.new) × (K.faults sink.old ≤ K.faults sink.new) }
+{
+    show_frames(alloc, asked_by(frames), pixels, source, sink)?;
+    Ok(())
+}
+
+/// Writes a text that needs no file.
+fn write_text<K: Sink>(text: &str, sink: &mut K) -> Result<(), Stop>
+    ensures ok { OnOk result (Appends (K.taken sink.old) (K.taken sink.new) text.now) }
+    ensures front { AppendsPart (K.taken sink.old) (K.taken sink.new) text.now }
+    ensures cause { IfErr result (λ why. (why ≡ Stop.WriteFault) × Rose (K.faults sink.old) (K.faults sink.new)) }
+    ensures later { K.faults sink.old ≤ K.faults sink.new }
+{
+    write_whole(sink, text.as_bytes())?;
+    Ok(())
+}
+
+/// Runs a command that is built, up to its end or the first event that stops it.
+pub(crate) fn run_command<S: Source, K: Sink>(
+    alloc: Global,
+    command: Command,
+    source: &mut S,
+    sink: &mut K,
+) -> Result<(), Stop>
+    requires { IsBuilt command }
+    ensures ends { IfTold (S.left source.old) (S.left source.new) (Ends command (K.taken sink.old) (K.taken sink.new) result) }
+    ensures read_fault { result ≡ Err Stop.ReadFault → Rose (S.faults source.old) (S.faults source.new) }
+    ensures write_fault { result ≡ Err Stop.WriteFault → Rose (K.faults sink.old) (K.faults sink.new) }
+    ensures later { (S.faults source.old ≤ S.faults source.new) × (K.faults sink.old ≤ K.faults sink.new) }
+{
+    match command {
+        Command::Info => write_counts(alloc, source, sink),
+        Command::Replay { pixels, frames } => replay(alloc, pixels, frames, source, sink),
+        Command::Help => write_text(HELP, sink),
+        Command::Version => write_text(VERSION, sink),
+        Command::Trim(_) => unreachable!(),
+        Command::Make { .. } => unreachable!(),
+    }
+}
