@@ -1,9 +1,12 @@
 -- Which ends a file allows.
-use Rattle.std.proofs.Common.{◌≡◌, ◌⊎◌, inl, inr, ℕ, List, Option, Some, None, Bool, true, false, refl, sym, ap, ◌∙◌}
+use Rattle.std.proofs.Common.{◌≡◌, ◌⊎◌, inl, inr, ℕ, List, Option, Some, None, Bool, true, false, refl, sym, ap, ◌∙◌, arith}
 use Rattle.std.specs.Prelude.{IfSome}
 use Rattle.gfx_io.specs.Told.{IfTold, IsTold}
 use Rattle.gfx_types.specs.declared.names.Fault.{Fault}
 use Rattle.gfx_model.specs.Blocks.{clean, bad}
+use Rattle.gfx_model.specs.Events.{Event}
+use Rattle.gfx_trim.specs.Numbers.{IsInside, IsOutside}
+use Rattle.gfx_trim.specs.Trims.{history_in}
 use Rattle.gfx_words.specs.declared.command.Command.{Command}
 use Rattle.gfx_words.specs.declared.command.Command.TheVariants.{Info, Replay, Trim, Make, Help, Version}
 use Rattle.gfx_cli.specs.declared.status.Status.{Status}
@@ -20,11 +23,16 @@ told_at None b P Q told p q = absurd told
 told_at (Some x) None P Q told p q = absurd q
 told_at (Some x) (Some y) P Q told p q = (x, y, p, q)
 
+-- frames that are in a history aren't missing in it
+in_and_out : (first last : ℕ) (h : List Event) → IsInside first last h → IsOutside first last h → ⊥
+in_and_out first last h inside (inl below) = let low = inside.low in absurd (omega (arith, low, below))
+in_and_out first last h inside (inr above) = let high = inside.high in absurd (omega (arith, high, above))
+
 pub good_not_bad : (c : Command) (fault : Fault) (block offset : ℕ) (bytes : List ℕ) → IsGood c bytes → IsBad c fault block offset bytes → ⊥
 good_not_bad Info fault block offset bytes good is = let e : clean ≡ bad fault block offset = sym good ∙ is in absurd cc
 good_not_bad (Replay pixels None) fault block offset bytes good is = let e : clean ≡ bad fault block offset = sym good ∙ is.0 in absurd cc
 good_not_bad (Replay pixels (Some r)) fault block offset bytes good is = let e : true ≡ false = sym good ∙ is.1 in absurd cc
-good_not_bad (Trim r) fault block offset bytes good is = is
+good_not_bad (Trim r) fault block offset bytes good is = in_and_out r.first r.last (history_in bytes) good is.1
 good_not_bad (Make n) fault block offset bytes good is = is
 good_not_bad Help fault block offset bytes good is = is
 good_not_bad Version fault block offset bytes good is = is
@@ -33,7 +41,7 @@ pub good_not_lacking : (c : Command) (first last : ℕ) (bytes : List ℕ) → I
 good_not_lacking Info first last bytes good is = is
 good_not_lacking (Replay pixels None) first last bytes good is = is.range
 good_not_lacking (Replay pixels (Some r)) first last bytes good is = let e : true ≡ false = sym good ∙ is.unseen in absurd cc
-good_not_lacking (Trim r) first last bytes good is = is
+good_not_lacking (Trim r) first last bytes good is = in_and_out r.first r.last (history_in bytes) good is.outside
 good_not_lacking (Make n) first last bytes good is = is
 good_not_lacking Help first last bytes good is = is
 good_not_lacking Version first last bytes good is = is
@@ -41,7 +49,7 @@ good_not_lacking Version first last bytes good is = is
 bad_not_lacking : (c : Command) (fault : Fault) (block offset first last : ℕ) (bytes : List ℕ) → IsBad c fault block offset bytes → LacksFrame c first last bytes → ⊥
 bad_not_lacking Info fault block offset first last bytes wrong is = is
 bad_not_lacking (Replay pixels frames) fault block offset first last bytes wrong is = let e : clean ≡ bad fault block offset = sym is.end ∙ wrong.0 in absurd cc
-bad_not_lacking (Trim r) fault block offset first last bytes wrong is = is
+bad_not_lacking (Trim r) fault block offset first last bytes wrong is = let e : clean ≡ bad fault block offset = sym is.end ∙ wrong.0 in absurd cc
 bad_not_lacking (Make n) fault block offset first last bytes wrong is = is
 bad_not_lacking Help fault block offset first last bytes wrong is = is
 bad_not_lacking Version fault block offset first last bytes wrong is = is
@@ -57,7 +65,7 @@ same_bad : (c : Command) (fault other : Fault) (block number offset place : ℕ)
     → BadFile fault block offset ≡ BadFile other number place
 same_bad Info fault other block number offset place bytes is so = one_bad fault other block number offset place (sym is ∙ so)
 same_bad (Replay pixels frames) fault other block number offset place bytes is so = one_bad fault other block number offset place (sym is.0 ∙ so.0)
-same_bad (Trim r) fault other block number offset place bytes is so = absurd is
+same_bad (Trim r) fault other block number offset place bytes is so = one_bad fault other block number offset place (sym is.0 ∙ so.0)
 same_bad (Make n) fault other block number offset place bytes is so = absurd is
 same_bad Help fault other block number offset place bytes is so = absurd is
 same_bad Version fault other block number offset place bytes is so = absurd is
@@ -67,7 +75,8 @@ same_lack : (c : Command) (first last other_first other_last : ℕ) (bytes : Lis
 same_lack Info first last other_first other_last bytes is so = absurd is
 same_lack (Replay pixels frames) first last other_first other_last bytes is so =
     ap (λ n. NoSuchFrame n last) (is.first_is ∙ sym so.first_is) ∙ ap (NoSuchFrame other_first) (is.last_is ∙ sym so.last_is)
-same_lack (Trim r) first last other_first other_last bytes is so = absurd is
+same_lack (Trim r) first last other_first other_last bytes is so =
+    ap (λ n. NoSuchFrame n last) (is.first_is ∙ sym so.first_is) ∙ ap (NoSuchFrame other_first) (is.last_is ∙ sym so.last_is)
 same_lack (Make n) first last other_first other_last bytes is so = absurd is
 same_lack Help first last other_first other_last bytes is so = absurd is
 same_lack Version first last other_first other_last bytes is so = absurd is

@@ -18,13 +18,16 @@ use Rattle.gfx_play.specs.declared.fault.ShowFault.{ShowFault}
 use Rattle.gfx_play.specs.declared.fault.ShowFault.TheVariants as show
 use Rattle.gfx_play.specs.Screens.{lines_of}
 use Rattle.gfx_play.specs.Shows.{Answers, lines_in, text_in}
+use Rattle.gfx_trim.specs.declared.fault.TrimFault.{TrimFault}
+use Rattle.gfx_trim.specs.declared.fault.TrimFault.TheVariants as fault
+use Rattle.gfx_trim.specs.Trims as trim
 use Rattle.gfx_cli.specs.declared.counts.Counts.{Counts}
 use Rattle.gfx_cli.specs.declared.stop.Stop.{Stop}
 use Rattle.gfx_cli.specs.declared.stop.Stop.TheVariants.{WantMemory, BadFile, NoSuchFrame, ReadFault, WriteFault}
 use Rattle.gfx_cli.specs.Commands.{IsGood, Leaves, asked_by, text_by, text_before}
 use Rattle.gfx_cli.specs.Counts.{CountsAll, IsCountOf}
 use Rattle.gfx_cli.specs.Ends.{Ends, IsCutOff, IsDone, Stops}
-use Rattle.gfx_cli.specs.Stop.{of_decoder, of_show}
+use Rattle.gfx_cli.specs.Stop.{of_decoder, of_show, of_trim}
 use Rattle.gfx_cli.specs.Text.{at_clean, counts_text, info_text, line_feed}
 
 -- ---- `info`
@@ -75,6 +78,19 @@ replay_fails show.WantMemory pixels frames before after all rest is = is
 pub replay_done : (pixels : Bool) (frames : Option FrameRange) (before after : Option (List ℕ)) (all rest : List ℕ)
     → Answers (asked_by frames) pixels before after (Ok tt) all rest → IsDone (Replay pixels frames) before after all rest
 replay_done pixels frames before after all rest is = record { good = is.0.complete; leaves = is.1; text = is.0.text }
+
+-- ---- `trim`
+
+pub trim_fails : (why : TrimFault) (r : FrameRange) (before after : Option (List ℕ)) (all rest : List ℕ)
+    → trim.Answers r.first r.last before after (Err why) all rest → Stops (Trim r) before after (of_trim why) all rest
+trim_fails (fault.Bad wrong block offset) r before after all rest is = ((is.end, is.outside), is.file)
+trim_fails (fault.NoSuchFrame first last) r before after all rest is = (record { end = is.end; outside = is.outside; first_is = is.low_is; last_is = is.high_is }, is.file)
+trim_fails fault.ReadFault r before after all rest is = record { read = is.given; parts = is.parts; text = is.file }
+trim_fails fault.SinkFault r before after all rest is = is
+trim_fails fault.WantMemory r before after all rest is = is
+
+pub trim_done : (r : FrameRange) (before after : Option (List ℕ)) (all rest : List ℕ) → trim.Answers r.first r.last before after (Ok tt) all rest → IsDone (Trim r) before after all rest
+trim_done r before after all rest is = record { good = is.inside; leaves = is.behind; text = is.file }
 
 -- ---- a text that needs no file
 

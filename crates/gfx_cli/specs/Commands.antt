@@ -12,13 +12,16 @@ use Rattle.gfx_play.specs.declared.asked.Asked.TheVariants.{All, Between}
 use Rattle.gfx_play.specs.Asked.{has_last}
 use Rattle.gfx_decode.specs.Meanings.{frames_in, end_of}
 use Rattle.gfx_play.specs.Shows as play
+use Rattle.gfx_trim.specs.Numbers as trim
+use Rattle.gfx_trim.specs.Trims.{history_in, IsBehindLast}
+use Rattle.gfx_trim.specs.Written.{written}
 use Rattle.gfx_cli.specs.Text.{info_text, help_text, version_line}
 
 -- the commands that are built
 abbrev pub IsBuilt : Command → Type 0
 IsBuilt Info = ⊤
 IsBuilt (Replay pixels frames) = ⊤
-IsBuilt (Trim r) = ⊥
+IsBuilt (Trim r) = ⊤
 IsBuilt (Make n) = ⊥
 IsBuilt Help = ⊤
 IsBuilt Version = ⊤
@@ -32,7 +35,7 @@ asked_by (Some r) = Between r.first r.last
 abbrev pub IsGood : Command → List ℕ → Type 0
 IsGood Info bytes = (blocks_of bytes).end ≡ clean
 IsGood (Replay pixels frames) bytes = play.IsComplete (asked_by frames) bytes
-IsGood (Trim r) bytes = ⊥
+IsGood (Trim r) bytes = trim.IsInside r.first r.last (history_in bytes)
 IsGood (Make n) bytes = ⊥
 IsGood Help bytes = ⊤
 IsGood Version bytes = ⊤
@@ -41,7 +44,7 @@ IsGood Version bytes = ⊤
 abbrev pub IsBad : Command → Fault → ℕ → ℕ → List ℕ → Type 0
 IsBad Info fault block offset bytes = (blocks_of bytes).end ≡ bad fault block offset
 IsBad (Replay pixels frames) fault block offset bytes = (end_of bytes ≡ bad fault block offset) × (has_last (asked_by frames) (frames_in bytes) ≡ false)
-IsBad (Trim r) fault block offset bytes = ⊥
+IsBad (Trim r) fault block offset bytes = (end_of bytes ≡ bad fault block offset) × trim.IsOutside r.first r.last (history_in bytes)
 IsBad (Make n) fault block offset bytes = ⊥
 IsBad Help fault block offset bytes = ⊥
 IsBad Version fault block offset bytes = ⊥
@@ -54,11 +57,18 @@ pub record HasOnly (asked : Asked) (first last : ℕ) (bytes : List ℕ) : Type 
   pub first_is : first ≡ play.first_in bytes
   pub last_is : last ≡ play.last_in bytes
 
+-- a file ends cleanly without a frame of a range that is to be cut out, and has these
+pub record LacksRange (r : FrameRange) (first last : ℕ) (bytes : List ℕ) : Type 0 where
+  pub end : end_of bytes ≡ clean
+  pub outside : trim.IsOutside r.first r.last (history_in bytes)
+  pub first_is : first ≡ trim.first_in (history_in bytes)
+  pub last_is : last ≡ trim.last_in (history_in bytes)
+
 -- a frame that the command asks for isn't in the file, which has these
 abbrev pub LacksFrame : Command → ℕ → ℕ → List ℕ → Type 0
 LacksFrame Info first last bytes = ⊥
 LacksFrame (Replay pixels frames) first last bytes = HasOnly (asked_by frames) first last bytes
-LacksFrame (Trim r) first last bytes = ⊥
+LacksFrame (Trim r) first last bytes = LacksRange r first last bytes
 LacksFrame (Make n) first last bytes = ⊥
 LacksFrame Help first last bytes = ⊥
 LacksFrame Version first last bytes = ⊥
@@ -67,7 +77,7 @@ LacksFrame Version first last bytes = ⊥
 abbrev pub text_by : Command → List ℕ → List ℕ
 text_by Info bytes = info_text bytes
 text_by (Replay pixels frames) bytes = play.text_in (asked_by frames) pixels bytes
-text_by (Trim r) bytes = []
+text_by (Trim r) bytes = written r.first r.last bytes
 text_by (Make n) bytes = []
 text_by Help bytes = help_text
 text_by Version bytes = version_line
@@ -76,7 +86,7 @@ text_by Version bytes = version_line
 abbrev pub text_before : Command → List ℕ → List ℕ
 text_before Info bytes = []
 text_before (Replay pixels frames) bytes = play.lines_in (asked_by frames) pixels bytes
-text_before (Trim r) bytes = []
+text_before (Trim r) bytes = written r.first r.last bytes
 text_before (Make n) bytes = []
 text_before Help bytes = []
 text_before Version bytes = []
@@ -85,7 +95,7 @@ text_before Version bytes = []
 abbrev pub Leaves : Command → List ℕ → List ℕ → Type 0
 Leaves Info bytes left = left ≡ []
 Leaves (Replay pixels frames) bytes left = play.Leaves (asked_by frames) bytes left
-Leaves (Trim r) bytes left = ⊥
+Leaves (Trim r) bytes left = IsBehindLast r.last bytes left
 Leaves (Make n) bytes left = ⊥
 Leaves Help bytes left = left ≡ bytes
 Leaves Version bytes left = left ≡ bytes

@@ -4,6 +4,8 @@ use Rattle.gfx_decode.specs.declared.fault.DecodeFault.{DecodeFault}
 use Rattle.gfx_decode.specs.declared.fault.DecodeFault.TheVariants as decoder
 use Rattle.gfx_play.specs.declared.fault.ShowFault.{ShowFault}
 use Rattle.gfx_play.specs.declared.fault.ShowFault.TheVariants as show
+use Rattle.gfx_trim.specs.declared.fault.TrimFault.{TrimFault}
+use Rattle.gfx_trim.specs.declared.fault.TrimFault.TheVariants as trim
 use Rattle.gfx_cli.specs.declared.status.Status.{Status}
 use Rattle.gfx_cli.specs.declared.status.Status.TheVariants as status
 use Rattle.gfx_cli.specs.declared.stop.Stop.{Stop}
@@ -23,6 +25,14 @@ of_show (show.NoSuchFrame first last) = NoSuchFrame first last
 of_show show.ReadFault = ReadFault
 of_show show.SinkFault = WriteFault
 of_show show.WantMemory = WantMemory
+
+-- a fault of trimming, as a command hands it on
+abbrev pub of_trim : TrimFault → Stop
+of_trim (trim.Bad fault block offset) = BadFile fault block offset
+of_trim (trim.NoSuchFrame first last) = NoSuchFrame first last
+of_trim trim.ReadFault = ReadFault
+of_trim trim.SinkFault = WriteFault
+of_trim trim.WantMemory = WantMemory
 
 -- the status with which the program ends
 abbrev pub status_of : Stop → Status

@@ -40,7 +40,6 @@ fn is_built(command: Command) -> bool
     ensures no { result ≡ false → ¬ IsBuilt command }
 {
     match command {
-        Command::Trim(_) => false,
         Command::Make { .. } => false,
         _ => true,
     }
@@ -73,6 +72,24 @@ fn replay<S: Source, K: Sink>(
     Ok(())
 }
 
+/// Writes the file of the frames of a range.
+fn cut<S: Source, K: Sink>(
+    alloc: Global,
+    range: FrameRange,
+    source: &mut S,
+    sink: &mut K,
+) -> Result<(), Stop>
+    requires { FitsRange range }
+    ensures ends { IfTold (S.left source.old) (S.left source.new) (Ends (Trim range) (K.taken sink.old) (K.taken sink.new) result) }
+    ensures keeps { IfTold (S.left source.old) (S.left source.new) (λ bytes _. AreBytes bytes → OnOk result (Keeps range.first range.last (K.taken sink.old) (K.taken sink.new) bytes)) }
+    ensures read_fault { result ≡ Err Stop.ReadFault → Rose (S.faults source.old) (S.faults source.new) }
+    ensures write_fault { result ≡ Err Stop.WriteFault → Rose (K.faults sink.old) (K.faults sink.new) }
+    ensures later { (S.faults source.old ≤ S.faults source.new) × (K.faults sink.old ≤ K.faults sink.new) }
+{
+    trim(alloc, range.first, range.last, source, sink)?;
+    Ok(())
+}
+
 /// Writes a text that needs no file.
 fn write_text<K: Sink>(text: &str, sink: &mut K) -> Result<(), Stop>
     ensures ok { OnOk result (Appends (K.taken sink.old) (K.taken sink.new) text.now) }
@@ -91,8 +108,10 @@ pub(crate) fn run_command<S: Source, K: Sink>(
     source: &mut S,
     sink: &mut K,
 ) -> Result<(), Stop>
-    requires { IsBuilt command }
+    requires built { IsBuilt command }
+    requires fits { Fits command }
     ensures ends { IfTold (S.left source.old) (S.left source.new) (Ends command (K.taken sink.old) (K.taken sink.new) result) }
+    ensures keeps { (range : FrameRange) → command ≡ Trim range → IfTold (S.left source.old) (S.left source.new) (λ bytes _. AreBytes bytes → OnOk result (Keeps range.first range.last (K.taken sink.old) (K.taken sink.new) bytes)) }
     ensures read_fault { result ≡ Err Stop.ReadFault → Rose (S.faults source.old) (S.faults source.new) }
     ensures write_fault { result ≡ Err Stop.WriteFault → Rose (K.faults sink.old) (K.faults sink.new) }
     ensures later { (S.faults source.old ≤ S.faults source.new) × (K.faults sink.old ≤ K.faults sink.new) }
@@ -102,7 +121,7 @@ pub(crate) fn run_command<S: Source, K: Sink>(
         Command::Replay { pixels, frames } => replay(alloc, pixels, frames, source, sink),
         Command::Help => write_text(HELP, sink),
         Command::Version => write_text(VERSION, sink),
-        Command::Trim(_) => unreachable!(),
+        Command::Trim(range) => cut(alloc, range, source, sink),
         Command::Make { .. } => unreachable!(),
     }
 }

@@ -1,11 +1,12 @@
 // Why a command ends before its work is done.
 ghost use Rattle.std.specs.Prelude.{◌≡◌};
 ghost use Rattle.gfx_cli.specs.declared.stop.Stop.TheVariants.{WantMemory as NoMemory, WriteFault as NotWritten};
-ghost use Rattle.gfx_cli.specs.Stop.{of_decoder, of_show};
+ghost use Rattle.gfx_cli.specs.Stop.{of_decoder, of_show, of_trim};
 
 use gfx_decode::DecodeFault;
 use gfx_io::Failed;
 use gfx_play::ShowFault;
+use gfx_trim::TrimFault;
 use gfx_types::Fault;
 use std::alloc::AllocError;
 
@@ -64,6 +65,31 @@ impl From<ShowFault> for Stop {
             ShowFault::ReadFault => Stop::ReadFault,
             ShowFault::SinkFault => Stop::WriteFault,
             ShowFault::WantMemory => Stop::WantMemory,
+        }
+    }
+}
+
+impl From<TrimFault> for Stop {
+    ghost from_gives = { λ fault stop. stop ≡ of_trim fault };
+
+    fn from(fault: TrimFault) -> Self {
+        match fault {
+            TrimFault::Bad {
+                fault,
+                block,
+                offset,
+            } => Stop::BadFile {
+                fault,
+                block,
+                offset,
+            },
+            TrimFault::NoSuchFrame { first_in, last_in } => Stop::NoSuchFrame {
+                first: first_in,
+                last: last_in,
+            },
+            TrimFault::ReadFault => Stop::ReadFault,
+            TrimFault::SinkFault => Stop::WriteFault,
+            TrimFault::WantMemory => Stop::WantMemory,
         }
     }
 }
