@@ -5,23 +5,22 @@ use crate::entry::{Entry, Name};
 use gfx_types::Fault;
 
 /// As many commands as there may be, in two buffers.
-pub static COMMANDS: [Attempt; 15] = attempts! {
+pub static COMMANDS: [Attempt; 14] = attempts! {
     BeginCommandBuffer(11, 0);
     BeginCommandBuffer(15, 0);
-    524288 * CmdPipelineBarrier(11, 0);
-    524288 * CmdPipelineBarrier(15, 0);
+    1048574 * CmdPipelineBarrier(11, 0);
+    2 * CmdPipelineBarrier(15, 0);
     CmdPipelineBarrier(11, 0) => LimitReached;
     CmdPipelineBarrier(15, 0) => LimitReached;
     CmdPipelineBarrier(11, 1, 4, 0, 7) => NotLive;
 
+    EndCommandBuffer(15);
+    CmdPipelineBarrier(15, 0) => CommandState;
+    CmdPipelineBarrier(11, 0) => LimitReached;
+    ResetCommandBuffer(15);
+    2 * CmdPipelineBarrier(11, 0);
+    CmdPipelineBarrier(11, 0) => LimitReached;
     EndCommandBuffer(11);
-    CmdPipelineBarrier(11, 0) => CommandState;
-    CmdPipelineBarrier(15, 0) => LimitReached;
-    ResetCommandBuffer(11);
-    CmdPipelineBarrier(15, 0);
-    BeginCommandBuffer(11, 0);
-    524287 * CmdPipelineBarrier(11, 0);
-    CmdPipelineBarrier(15, 0) => LimitReached;
 };
 
 /// As many bytes as there may be: 4,094 updates of 65,568 bytes, of which 65,536 are written, leave room for 64. Seven of the
