@@ -162,4 +162,7 @@ def main():
             compare([program, "trim", f"{frames // 3}-{2 * frames // 3}"], path, ["cat"], path, 2)
 
 
-main()
+try:
+    main()
+except subprocess.CalledProcessError as failed:
+    sys.exit(str(failed))
