@@ -10,7 +10,7 @@ use Rattle.gfx_words.specs.declared.command.Command.TheVariants.{Info, Replay, T
 use Rattle.gfx_play.specs.declared.asked.Asked.{Asked}
 use Rattle.gfx_play.specs.declared.asked.Asked.TheVariants.{All, Between}
 use Rattle.gfx_play.specs.Asked.{has_last}
-use Rattle.gfx_play.specs.Meanings.{frames_in, end_of}
+use Rattle.gfx_decode.specs.Meanings.{frames_in, end_of}
 use Rattle.gfx_play.specs.Shows as play
 use Rattle.gfx_cli.specs.Text.{info_text, help_text, version_line}
 
