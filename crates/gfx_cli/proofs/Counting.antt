@@ -118,6 +118,7 @@ split_fault counts all stage WantMemory before after split gives = tt
 pub with_one_if : (b : Bool) (n most : ℕ) → n ≤ most → n + one_if b ≤ most + 1
 with_one_if true n most below = omega arith
 with_one_if false n most below = omega arith
+
 -- some bytes were read, and then some more
 pub reads_more : (a b c : Option (List ℕ)) → ReadsSome a b → ReadsSome b c → ReadsSome a c
 reads_more a b c (bytes, read) (more, came) = (bytes ++ more, Consumes-trans a b c bytes more read came)

@@ -16,7 +16,8 @@ use gfx_play::{Asked, show_frames};
 use gfx_words::{Command, FrameRange};
 use std::alloc::Global;
 
-const HELP: &str = "usage: gfxcap info; replay [--pixels] [--frames A-B]; trim A-B; capture [--frames A-B]; make N
+const HELP: &str =
+    "usage: gfxcap info; replay [--pixels] [--frames A-B]; trim A-B; capture [--frames A-B]; make N
 A capture is read from standard input, and frames A to B are those with these numbers.
 info describes it, replay writes a line with the digest of each frame, with --pixels its rows too.
 --help and --version alone write this text and the version.
@@ -31,7 +32,11 @@ pub(crate) fn built_command(words: &[String]) -> Option<Command>
     ensures none { IsNone result → IsOutside (map string_bytes words.now) }
 {
     let command = Command::of(words)?;
-    if is_built(command) { Some(command) } else { None }
+    if is_built(command) {
+        Some(command)
+    } else {
+        None
+    }
 }
 
 /// Whether a command is built.

@@ -11,6 +11,7 @@ use Rattle.gfx_model.specs.Frames.{frames}
 use Rattle.gfx_model.specs.Meaning.{Judged, judge, content_fault}
 use Rattle.gfx_model.specs.Text.{count_line}
 use Rattle.gfx_grammar.specs.HeaderLaws.{minor_of-append}
+use Rattle.gfx_grammar.specs.Splitting.{Blocks}
 use Rattle.gfx_trim_law.proofs.Cuts.{onto_parts}
 use Rattle.gfx_decode.specs.Stage.{Stage, At}
 use Rattle.gfx_decode.specs.Decoding.{Gives, GivesHeader, IsBlockAt, behind, item_of}
@@ -46,10 +47,12 @@ use Rattle.gfx_play.proofs.Playing.{played_bad, played_front, played_rule, bad_s
 cut_header : (a : Asked) (pixels : Bool) (taken : Option (List ℕ)) (all left : List ℕ) → IsGiven [] all left → IsCut a pixels taken taken all left
 unfolding frames lines_of
 cut_header a pixels taken all left g =
-    let shows : frames_in g.given ≡ [] = ap (λ (j : Judged). frames j.history) (judged_given [] all left g refl) in
+    let judged = judged_given [] all left g refl in
+    let shows : frames_in g.given ≡ [] = ap (λ (j : Judged). frames j.history) judged in
     record {
       given = g.given;
       parts = g.parts;
+      lawful = ap (λ (j : Judged). j.end) judged ∙ sym (ap (λ (b : Blocks). b.end) g.blocks);
       unseen = ap (has_last a) shows;
       text = subst (λ fs. Appends taken taken (lines_of (record { minor = minor_of g.given; pixels = pixels }) (asked_of a fs))) (sym shows) (appends_none taken);
     }
@@ -59,11 +62,13 @@ cut_behind : (a : Asked) (pixels : Bool) (all : List ℕ) (stage : Stage) (scree
     Played a pixels all stage screen left before after → GivesNone stage left rest → IsCut a pixels before after all rest
 cut_behind a pixels all stage screen left rest before after p none =
     let (g, long) = stops_behind_blocks p.fed stage all left rest p.fits none in
-    let shows : frames_in g.given ≡ frames (history_of p.fed) = ap (λ (j : Judged). frames j.history) (judged_given p.fed all rest g (p.stands).replays.stands.valid) in
+    let judged = judged_given p.fed all rest g (p.stands).replays.stands.valid in
+    let shows : frames_in g.given ≡ frames (history_of p.fed) = ap (λ (j : Judged). frames j.history) judged in
     let minor : minor_of all ≡ minor_of g.given = ap minor_of g.parts ∙ minor_of-append g.given rest long in
     record {
       given = g.given;
       parts = g.parts;
+      lawful = ap (λ (j : Judged). j.end) judged ∙ sym (ap (λ (b : Blocks). b.end) g.blocks);
       unseen = ap (has_last a) shows ∙ p.unseen;
       text = subst (λ m. Appends before after (lines_of (record { minor = m; pixels = pixels }) (asked_of a (frames_in g.given)))) minor
           (subst (λ fs. Appends before after (lines_of (record { minor = minor_of all; pixels = pixels }) (asked_of a fs))) (sym shows) p.text);

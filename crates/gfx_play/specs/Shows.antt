@@ -65,10 +65,11 @@ pub record IsWithout (a : Asked) (pixels : Bool) (before after : Option (List �
   pub last_is : last ≡ last_in bytes
   pub text : Appends before after (lines_in a pixels bytes)
 
--- a read failed before the last frame that is asked for: the frames of the bytes that were given were shown
+-- a read failed before the last frame that is asked for and before any rule fault: the frames of the bytes that were given were shown
 pub record IsCut (a : Asked) (pixels : Bool) (before after : Option (List ℕ)) (bytes left : List ℕ) : Type 0 where
   pub given : List ℕ
   pub parts : bytes ≡ given ++ left
+  pub lawful : end_of given ≡ (blocks_of given).end
   pub unseen : has_last a (frames_in given) ≡ false
   pub text : Appends before after (lines_in a pixels given)
 

@@ -5,6 +5,8 @@
 #[cfg(test)]
 mod act;
 #[cfg(test)]
+mod attempt;
+#[cfg(test)]
 mod capture;
 #[cfg(test)]
 mod case;

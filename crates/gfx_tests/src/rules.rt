@@ -1,6 +1,8 @@
-//! All cases, group by group, judged by the plain evaluator and by the tracker.
+//! All cases, group by group, judged by the plain evaluator and by the tracker, or by the tracker alone.
 
+use crate::attempt::try_in_order;
 use crate::case::{try_all, try_both};
+use crate::histories::History;
 use crate::judge::Tracked;
 use crate::table::*;
 use std::test::Fail;
@@ -115,4 +117,22 @@ fn metadata_markers_and_sections(rt: HostRuntime) -> Result<(), Fail> {
 #[test]
 fn lists_that_are_too_long(rt: HostRuntime) -> Result<(), Fail> {
     try_all::<Tracked>(&rt, rt.alloc(), &limits::LISTS)
+}
+
+#[test]
+fn as_many_objects_as_there_may_be(rt: HostRuntime) -> Result<(), Fail> {
+    let after = [History::Device, History::Swapchain];
+    try_in_order(&rt, rt.alloc(), &after, &limits::OBJECTS)
+}
+
+#[test]
+fn as_many_commands_as_may_be_kept(rt: HostRuntime) -> Result<(), Fail> {
+    let after = [History::Device, History::Pool, History::Second];
+    try_in_order(&rt, rt.alloc(), &after, &kept::COMMANDS)
+}
+
+#[test]
+fn as_many_bytes_as_may_be_kept(rt: HostRuntime) -> Result<(), Fail> {
+    let after = [History::Device, History::Resources];
+    try_in_order(&rt, rt.alloc(), &after, &kept::BYTES)
 }

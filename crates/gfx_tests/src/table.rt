@@ -4,6 +4,7 @@ pub mod buffers;
 pub mod commands;
 pub mod copies;
 pub mod image_copies;
+pub mod kept;
 pub mod limits;
 pub mod memory;
 pub mod metadata;

@@ -1,6 +1,7 @@
 //! Limits of 65,536: in lists, and of live objects. The plain evaluator would run out of stack on these lists.
 
-use crate::case::{Case, accepted, cases, entries};
+use crate::attempt::{Attempt, attempts};
+use crate::case::{Case, cases, entries};
 use crate::entry::{Entry, Name};
 use crate::histories::History;
 use gfx_types::Fault;
@@ -16,32 +17,63 @@ pub static LISTS: [Case; 7] = cases! {
     "ResetFences: too many before no fence": Device Fences {} ResetFences(3, 65537, 22) => LimitReached;
 };
 
-/// One object more than there may be, alone and behind an earlier check. With a device, its instance, surface and queue, and a
-/// pool, 65,531 buffers are all that there may be.
-pub static ROOM: [Case; 18] = cases! {
-    "CreateInstance: no room": Device { CreateCommandPool(3, 10, 2); AllocateCommandBuffers(3, 10, 65531); } CreateInstance(900, 0) => LimitReached;
-    "CreateHeadlessSurfaceEXT: no room": Device { CreateCommandPool(3, 10, 2); AllocateCommandBuffers(3, 10, 65531); } CreateHeadlessSurfaceEXT(1, 900) => LimitReached;
-    "CreateDevice: no room": Device { CreateCommandPool(3, 10, 2); AllocateCommandBuffers(3, 10, 65531); } CreateDevice(1, 900) => LimitReached;
-    "GetDeviceQueue: no room": Device { CreateDevice(1, 103); CreateCommandPool(3, 10, 2); AllocateCommandBuffers(3, 10, 65530); } GetDeviceQueue(103, 900) => LimitReached;
-    "AllocateMemory: no room": Device { CreateCommandPool(3, 10, 2); AllocateCommandBuffers(3, 10, 65531); } AllocateMemory(3, 900, 16) => LimitReached;
-    "CreateBuffer: no room": Device { CreateCommandPool(3, 10, 2); AllocateCommandBuffers(3, 10, 65531); } CreateBuffer(3, 900, 16, 1) => LimitReached;
-    "CreateImage: no room": Device { CreateCommandPool(3, 10, 2); AllocateCommandBuffers(3, 10, 65531); } CreateImage(3, 900, 13, 4, 4, 1) => LimitReached;
-    "CreateCommandPool: no room": Device { CreateCommandPool(3, 10, 2); AllocateCommandBuffers(3, 10, 65531); } CreateCommandPool(3, 900, 0) => LimitReached;
-    "AllocateCommandBuffers: no room": Device { CreateCommandPool(3, 10, 2); AllocateCommandBuffers(3, 10, 65530); } AllocateCommandBuffers(3, 10, 2, 900, 901) => LimitReached;
-    "AllocateCommandBuffers: no room for as many as may be": Device Pool {} AllocateCommandBuffers(3, 10, 65536) => LimitReached;
-    "CreateFence: no room": Device { CreateCommandPool(3, 10, 2); AllocateCommandBuffers(3, 10, 65531); } CreateFence(3, 900, 0) => LimitReached;
-    "CreateSemaphore: no room": Device { CreateCommandPool(3, 10, 2); AllocateCommandBuffers(3, 10, 65531); } CreateSemaphore(3, 900) => LimitReached;
-    "CreateSwapchainKHR: no room": Device { CreateCommandPool(3, 10, 2); AllocateCommandBuffers(3, 10, 65531); } CreateSwapchainKHR(3, 900, 2, 2, 13, 4, 4, 3) => LimitReached;
-    "GetSwapchainImagesKHR: no room": Device Swapchain { CreateCommandPool(3, 10, 2); AllocateCommandBuffers(3, 10, 65529); } GetSwapchainImagesKHR(3, 5, 2, 900, 901) => LimitReached;
-    "CreateInstance: a used id before no room": Device { CreateCommandPool(3, 10, 2); AllocateCommandBuffers(3, 10, 65531); } CreateInstance(4, 0) => IdTaken;
-    "CreateBuffer: no bytes before no room": Device { CreateCommandPool(3, 10, 2); AllocateCommandBuffers(3, 10, 65531); } CreateBuffer(3, 900, 0, 1) => BadValue;
-    "GetSwapchainImagesKHR: a used id before no room": Device Swapchain { CreateCommandPool(3, 10, 2); AllocateCommandBuffers(3, 10, 65529); } GetSwapchainImagesKHR(3, 5, 2, 900, 4) => IdTaken;
-    "CreateSwapchainKHR: a surface that has one before no room": Device Swapchain { CreateCommandPool(3, 10, 2); AllocateCommandBuffers(3, 10, 65530); } CreateSwapchainKHR(3, 900, 2, 2, 13, 4, 4, 3) => SwapState;
-};
+/// As many live objects as there may be. With an instance, two surfaces, two devices, a queue, a swapchain and a pool these are
+/// 65,528 command buffers and fences.
+pub static OBJECTS: [Attempt; 52] = attempts! {
+    CreateDevice(1, 103);
+    CreateHeadlessSurfaceEXT(1, 52);
+    CreateCommandPool(3, 10, 2);
+    AllocateCommandBuffers(3, 10, 65536) => LimitReached;
+    AllocateCommandBuffers(3, 10, 65524);
 
-/// As many as there may be.
-pub static GOOD: [Case; 3] = accepted! {
-    "CreateFence: the last one": Device { CreateCommandPool(3, 10, 2); AllocateCommandBuffers(3, 10, 65530); } CreateFence(3, 900, 0);
-    "AllocateCommandBuffers: the last two": Device { CreateCommandPool(3, 10, 2); AllocateCommandBuffers(3, 10, 65529); } AllocateCommandBuffers(3, 10, 2, 900, 901);
-    "CreateFence: after a pool ended with its buffers": Device { CreateCommandPool(3, 10, 2); AllocateCommandBuffers(3, 10, 65531); DestroyCommandPool(3, 10); } CreateFence(3, 900, 0);
+    AllocateCommandBuffers(3, 10, 5, 900, 901, 902, 903, 904) => LimitReached;
+    AllocateCommandBuffers(3, 10, 3, 900, 901, 902);
+    AllocateCommandBuffers(3, 10, 2, 903, 904) => LimitReached;
+    GetSwapchainImagesKHR(3, 5, 2, 903, 904) => LimitReached;
+    GetSwapchainImagesKHR(3, 5, 2, 903, 4) => IdTaken;
+    CreateFence(3, 903, 0);
+
+    CreateInstance(904, 0) => LimitReached;
+    CreateHeadlessSurfaceEXT(1, 904) => LimitReached;
+    CreateDevice(1, 904) => LimitReached;
+    GetDeviceQueue(103, 904) => LimitReached;
+    AllocateMemory(3, 904, 16) => LimitReached;
+    CreateBuffer(3, 904, 16, 1) => LimitReached;
+    CreateImage(3, 904, 13, 4, 4, 1) => LimitReached;
+    CreateCommandPool(3, 904, 0) => LimitReached;
+    AllocateCommandBuffers(3, 10, 1, 904) => LimitReached;
+    CreateFence(3, 904, 0) => LimitReached;
+    CreateSemaphore(3, 904) => LimitReached;
+    CreateSwapchainKHR(3, 904, 52, 2, 13, 4, 4, 3) => LimitReached;
+    GetSwapchainImagesKHR(3, 5, 2, 904, 905) => LimitReached;
+
+    CreateInstance(4, 0) => IdTaken;
+    CreateHeadlessSurfaceEXT(1, 4) => IdTaken;
+    CreateDevice(1, 4) => IdTaken;
+    GetDeviceQueue(103, 903) => IdTaken;
+    AllocateMemory(3, 904, 0) => BadValue;
+    CreateBuffer(3, 904, 0, 1) => BadValue;
+    CreateImage(3, 904, 13, 0, 4, 1) => BadValue;
+    CreateCommandPool(3, 904, 4) => BadValue;
+    AllocateCommandBuffers(3, 10, 2, 904, 904) => IdTaken;
+    CreateFence(3, 904, 2) => BadValue;
+    CreateSemaphore(3, 903) => IdTaken;
+    CreateSwapchainKHR(3, 904, 2, 2, 13, 4, 4, 3) => SwapState;
+    CreateSwapchainKHR(3, 904, 52, 0, 13, 4, 4, 3) => BadValue;
+
+    DestroyFence(3, 903);
+    CreateSemaphore(3, 904);
+    CreateSemaphore(3, 905) => LimitReached;
+    FreeCommandBuffers(3, 10, 1, 900);
+    GetDeviceQueue(103, 905);
+    GetDeviceQueue(103, 905);
+    CreateSemaphore(3, 906) => LimitReached;
+    FreeCommandBuffers(3, 10, 2, 901, 902);
+    GetSwapchainImagesKHR(3, 5, 2, 906, 907);
+    GetSwapchainImagesKHR(3, 5, 2, 906, 907);
+    CreateSemaphore(3, 908) => LimitReached;
+    DestroyCommandPool(3, 10);
+    CreateInstance(908, 0);
+    CreateCommandPool(3, 909, 2);
+    AllocateCommandBuffers(3, 909, 2, 910, 911);
 };

@@ -28,7 +28,7 @@ returns-in_err-write_whole-clause-ends g c =
     subst (λ r. IfTold (g.S.Source.left c.args.source.now) (g.S.Source.left c.count.new.source) (Ends Info before after r)) (sym (p.1 ∙ ap Err p.2))
     (told_if _ _ (CountsAll (Ok c.in_ok-counts.counts)) (Ends Info before after (Err WriteFault)) c.in_ok-counts.ensures.told
     (λ all rest told. info_part c.in_ok-counts.counts before after all rest told
-        (subst (AppendsPart before after) (c.as_bytes.ensures.value ∙ c.in_ok-text.ensures) c.in_err-write_whole.ensures.failed)))
+    (subst (AppendsPart before after) (c.as_bytes.ensures.value ∙ c.in_ok-text.ensures) c.in_err-write_whole.ensures.failed)))
 
 pub returns-clause-ends : goal.returns-clause-ends
 returns-clause-ends g c =
@@ -36,4 +36,4 @@ returns-clause-ends g c =
     let after = g.K.Sink.taken c.write_whole.new.sink in
     told_if _ _ (CountsAll (Ok c.in_ok-counts.counts)) (Ends Info before after (Ok tt)) c.in_ok-counts.ensures.told
     (λ all rest told. info_done c.in_ok-counts.counts before after all rest told
-        (subst (Appends before after) (c.as_bytes.ensures.value ∙ c.in_ok-text.ensures) c.in_ok-write_whole.ensures.bytes))
+    (subst (Appends before after) (c.as_bytes.ensures.value ∙ c.in_ok-text.ensures) c.in_ok-write_whole.ensures.bytes))

@@ -45,10 +45,10 @@ returns-in-Err-clause-complete g c other named told good reads writes =
     let after = g.K.Sink.taken c.run_command.new.sink in
     let same = c.in-Some.ensures.only other named in
     let (all, rest, whole, stops) = told_at _ _ (IsGood command) (Stops command before after c.in-Err.stop) told
-        (subst (λ k. IfSome (g.S.Source.left c.args.source.now) (IsGood k)) same good) c.in-Err.ensures.ends in
+    (subst (λ k. IfSome (g.S.Source.left c.args.source.now) (IsGood k)) same good) c.in-Err.ensures.ends in
     inr (c.tell.ensures.silent (good_stops command before after c.in-Err.stop all rest whole stops
-        (λ e. reads (c.in-Err.ensures.read_fault (ap Err e)))
-        (λ e. writes (c.in-Err.ensures.write_fault (ap Err e)))))
+    (λ e. reads (c.in-Err.ensures.read_fault (ap Err e)))
+    (λ e. writes (c.in-Err.ensures.write_fault (ap Err e)))))
 
 pub returns-in-Err-clause-bad_file : goal.returns-in-Err-clause-bad_file
 returns-in-Err-clause-bad_file g c is =

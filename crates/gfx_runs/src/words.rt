@@ -1,0 +1,74 @@
+//! The words of the command line.
+
+use crate::outside::Outside;
+use std::test::Fail;
+
+const USAGE: &[u8] =
+    b"usage: gfxcap info; replay [--pixels] [--frames A-B]; trim A-B; capture [--frames A-B]; make N\n";
+
+const HELP: &[u8] =
+    b"usage: gfxcap info; replay [--pixels] [--frames A-B]; trim A-B; capture [--frames A-B]; make N
+A capture is read from standard input, and frames A to B are those with these numbers.
+info describes it, replay writes a line with the digest of each frame, with --pixels its rows too.
+--help and --version alone write this text and the version.
+";
+
+#[test]
+fn help_and_version_go_to_the_sink_and_read_nothing(rt: HostRuntime) -> Result<(), Fail> {
+    for (word, text) in [
+        ("--help", HELP),
+        ("--version", b"gfxcap 0.1.0\n".as_slice()),
+    ] {
+        let ended = Outside::of(&[word], b"no capture").run(rt.alloc())?;
+        assert_eq!(rt; ended.status, 0);
+        assert_eq!(rt; ended.text.as_slice(), text);
+        assert!(rt; ended.notes.is_empty());
+        assert_eq!(rt; ended.left, 10);
+    }
+    Ok(())
+}
+
+/// Words of no command.
+const OTHERS: [&[&str]; 13] = [
+    &[],
+    &["Info"],
+    &["info", "info"],
+    &["--help", "info"],
+    &["--version", "--help"],
+    &["replay", "--pixels", "--pixels"],
+    &["replay", "--frames"],
+    &["replay", "--frames", "3-2"],
+    &["replay", "--frames", "02-3"],
+    &["replay", "--frames", "1-18446744073709551616"],
+    &["replay", "--frames", "1-2", "--pixels"],
+    &["trim", "2"],
+    &["make", "2"],
+];
+
+/// Words of commands that are not built.
+const UNBUILT: [&[&str]; 4] = [
+    &["trim", "2-2"],
+    &["make", "60"],
+    &["capture"],
+    &["capture", "--frames", "1-1"],
+];
+
+#[test]
+fn words_outside_the_grammar_are_answered_by_the_usage_line(rt: HostRuntime) -> Result<(), Fail> {
+    for words in OTHERS {
+        let ended = Outside::of(words, b"no capture").run(rt.alloc())?;
+        assert_eq!(rt; ended.status, 2, "of {words:?}");
+        assert_eq!(rt; ended.notes.as_slice(), USAGE, "of {words:?}");
+        assert!(rt; ended.text.is_empty(), "of {words:?}");
+        assert_eq!(rt; ended.left, 10, "of {words:?}");
+    }
+    Ok(())
+}
+
+#[test]
+fn words_of_commands_that_are_not_built_are_answered_so_too(rt: HostRuntime) -> Result<(), Fail> {
+    for words in UNBUILT {
+        Outside::of(words, b"").ends(&rt, 2, b"", USAGE)?;
+    }
+    Ok(())
+}
