@@ -4,15 +4,21 @@ ghost use Rattle.std.specs.Io.KnownBytes.{Appends};
 ghost use Rattle.gfx_io.specs.Causes.{Rose};
 ghost use Rattle.gfx_io.specs.Pieces.{AppendsPart};
 ghost use Rattle.gfx_io.specs.Told.{IfTold};
+ghost use Rattle.gfx_grammar.specs.Reads.{AreBytes};
+ghost use Rattle.gfx_words.specs.Commands.{Fits};
+ghost use Rattle.gfx_words.specs.Words.{FitsRange};
+ghost use Rattle.gfx_words.specs.declared.range.FrameRange.{FrameRange as Range};
+ghost use Rattle.gfx_trim.specs.Keeps.{Keeps};
 ghost use Rattle.gfx_cli.specs.Commands.{IsBuilt, asked_by};
 ghost use Rattle.gfx_cli.specs.Ends.{Ends};
 ghost use Rattle.gfx_cli.specs.Words.{IsNamed, IsOutside, IsOnly};
-ghost use Rattle.gfx_words.specs.declared.command.Command.TheVariants.{Replay};
+ghost use Rattle.gfx_words.specs.declared.command.Command.TheVariants.{Replay, Trim};
 
 use crate::Stop;
 use crate::info::write_counts;
 use gfx_io::{Sink, Source, write_whole};
 use gfx_play::{Asked, show_frames};
+use gfx_trim::trim;
 use gfx_words::{Command, FrameRange};
 use std::alloc::Global;
 
@@ -116,7 +122,7 @@ pub(crate) fn run_command<S: Source, K: Sink>(
     requires built { IsBuilt command }
     requires fits { Fits command }
     ensures ends { IfTold (S.left source.old) (S.left source.new) (Ends command (K.taken sink.old) (K.taken sink.new) result) }
-    ensures keeps { (range : FrameRange) → command ≡ Trim range → IfTold (S.left source.old) (S.left source.new) (λ bytes _. AreBytes bytes → OnOk result (Keeps range.first range.last (K.taken sink.old) (K.taken sink.new) bytes)) }
+    ensures keeps { (range : Range) → command ≡ Trim range → IfTold (S.left source.old) (S.left source.new) (λ bytes _. AreBytes bytes → OnOk result (Keeps range.first range.last (K.taken sink.old) (K.taken sink.new) bytes)) }
     ensures read_fault { result ≡ Err Stop.ReadFault → Rose (S.faults source.old) (S.faults source.new) }
     ensures write_fault { result ≡ Err Stop.WriteFault → Rose (K.faults sink.old) (K.faults sink.new) }
     ensures later { (S.faults source.old ≤ S.faults source.new) × (K.faults sink.old ≤ K.faults sink.new) }

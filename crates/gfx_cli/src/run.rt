@@ -3,7 +3,11 @@ ghost use Rattle.std.specs.Prelude.{◌≡◌, ◌⊎◌, ◌≤◌, ℕ, List, 
 ghost use Rattle.std.specs.Io.KnownBytes.{Appends};
 ghost use Rattle.gfx_io.specs.Causes.{Rose};
 ghost use Rattle.gfx_io.specs.Pieces.{AppendsPart};
-ghost use Rattle.gfx_io.specs.Told.{IsTold};
+ghost use Rattle.gfx_io.specs.Told.{IfTold, IsTold};
+ghost use Rattle.gfx_grammar.specs.Reads.{AreBytes};
+ghost use Rattle.gfx_words.specs.declared.range.FrameRange.{FrameRange};
+ghost use Rattle.gfx_words.specs.declared.command.Command.TheVariants.{Trim};
+ghost use Rattle.gfx_trim.specs.Keeps.{Keeps};
 ghost use Rattle.gfx_types.specs.declared.names.Fault.{Fault as FileFault};
 ghost use Rattle.gfx_words.specs.declared.command.Command.{Command};
 ghost use Rattle.gfx_cli.specs.declared.stop.Stop.TheVariants as stop;
@@ -39,6 +43,10 @@ pub fn run_files<S: Source, K: Sink, N: Sink>(
     // The file has all that the command asks for, and its text was written.
     ensures done { result ≡ Status.Done → Runs (map string_bytes words.now) (S.left source.old) (S.left source.new) (K.taken sink.old) (K.taken sink.new) (Ok tt)
         × (notes.new ≡ notes.old) }
+
+    // Of a file that was cut, the sink took one that ends cleanly and whose frames are exactly those of the range.
+    ensures keeps { result ≡ Status.Done → (range : FrameRange) → IsNamed (map string_bytes words.now) (Trim range) → IfTold (S.left source.old) (S.left source.new)
+        (λ bytes _. AreBytes bytes → Keeps range.first range.last (K.taken sink.old) (K.taken sink.new) bytes) }
     ensures complete { (command : Command) → IsNamed (map string_bytes words.now) command → IsTold (S.left source.old) → IfSome (S.left source.old) (IsGood command)
         → ¬ Rose (S.faults source.old) (S.faults source.new) → ¬ Rose (K.faults sink.old) (K.faults sink.new)
         → (result ≡ Status.Done) ⊎ (result ≡ Status.WantMemory) }
