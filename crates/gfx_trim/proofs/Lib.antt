@@ -1,0 +1,5 @@
+pub mod Cutting
+pub mod Growing
+pub mod Judging
+pub mod Numbers
+pub mod Phases
