@@ -1,5 +1,5 @@
 -- How the counts follow the blocks, one at a time.
-use Rattle.std.proofs.Common.{◌≡◌, ℕ, ◌+◌, ◌<◌, ◌^◌, ◌==◌, true, false, add-zero, zero-add, ◌≤◌, List, [], ◌∷◌, length, Some, None, Ok, Err, Option, cond, Bool, subst, sym, ap, ◌∙◌, arith}
+use Rattle.std.proofs.Common.{◌≡◌, ℕ, ◌+◌, ◌==◌, true, false, add-zero, zero-add, ◌≤◌, List, [], ◌∷◌, length, Some, None, Ok, Err, cond, Bool, subst, sym, ap, ◌∙◌, arith}
 use Rattle.std.specs.Prelude.{count_by}
 use mir.Val.{bool_byte}
 use Rattle.std.proofs.lemmas.List.Sums.{sum_by-cons}
@@ -15,12 +15,10 @@ use Rattle.gfx_model.specs.Events.{event_of, event_of_call, event_of_meta}
 use Rattle.gfx_model.specs.Spelling.{id_of}
 use Rattle.gfx_cli.proofs.Events.{with_call, with_meta, with_marker}
 use Rattle.gfx_decode.specs.declared.decoder.Raw.{Raw}
-use Rattle.gfx_decode.specs.Reachable.{blocks_ahead}
-use Rattle.gfx_decode.specs.Stage.{Stage, Fresh, At, Failed}
+use Rattle.gfx_decode.specs.Stage.{Stage}
 use Rattle.gfx_decode.specs.declared.fault.DecodeFault.{DecodeFault}
 use Rattle.gfx_decode.specs.declared.fault.DecodeFault.TheVariants.{Bad, ReadFault, WantMemory}
-use Rattle.gfx_io.specs.Told.{IfTold}
-use Rattle.gfx_decode.specs.Decoding.{coming, Gives, GivesHeader, IsBlockAt, item_of, behind, start_of}
+use Rattle.gfx_decode.specs.Decoding.{coming, Gives, GivesHeader, item_of, behind, start_of}
 use Rattle.gfx_cli.specs.declared.counts.Counts.{Counts}
 use Rattle.gfx_cli.specs.Counts.{one_if, with_block, CountsAll}
 
@@ -114,38 +112,7 @@ split_fault counts all stage (Bad fault block offset) before after split gives =
 split_fault counts all stage ReadFault before after split gives = tt
 split_fault counts all stage WantMemory before after split gives = tt
 
--- what holds from the first bytes to the second, and from those to the third, where they are told
-pub told_through : (a b c : Option (List ℕ)) (P Q R : List ℕ → List ℕ → Type 0) → IfTold a b P → IfTold b c Q
-    → ((x y z : List ℕ) → P x y → Q y z → R x z) → IfTold a c R
-told_through None b c P Q R p q f = tt
-told_through (Some x) None c P Q R p q f = absurd p
-told_through (Some x) (Some y) None P Q R p q f = absurd q
-told_through (Some x) (Some y) (Some z) P Q R p q f = f x y z p q
-
 -- a block adds one or none
 pub with_one_if : (b : Bool) (n most : ℕ) → n ≤ most → n + one_if b ≤ most + 1
 with_one_if true n most below = omega arith
 with_one_if false n most below = omega arith
-
--- the decoder stands behind as many blocks as were counted
-abbrev pub StandsBehind : ℕ → Stage → Type 0
-StandsBehind blocks Fresh = ⊥
-StandsBehind blocks (At minor at) = at.number ≡ blocks + 1
-StandsBehind blocks (Failed why) = ⊥
-
--- no more blocks were counted than a file may have
-pub few_blocks : (blocks : ℕ) (stage : Stage) (raw : Raw) → StandsBehind blocks stage → IsBlockAt stage raw → raw.number ≤ 2 ^ 33 + 1 → blocks < 2 ^ 34
-few_blocks blocks Fresh raw stands block few = absurd stands
-few_blocks blocks (At minor at) raw stands block few = omega (arith, stands, block.number, few)
-few_blocks blocks (Failed why) raw stands block few = absurd stands
-
--- each block leaves fewer to come
-pub fewer_ahead : (blocks : ℕ) (stage : Stage) (raw : Raw) → StandsBehind blocks stage → IsBlockAt stage raw → raw.number ≤ 2 ^ 33 + 1 → blocks_ahead (behind stage raw) < blocks_ahead stage
-fewer_ahead blocks Fresh raw stands block few = absurd stands
-fewer_ahead blocks (At minor at) raw stands block few = omega (arith, block.number, few)
-fewer_ahead blocks (Failed why) raw stands block few = absurd stands
-
-pub step_place : (blocks : ℕ) (stage : Stage) (raw : Raw) → StandsBehind blocks stage → StandsBehind (blocks + 1) (behind stage raw)
-step_place blocks Fresh raw stands = absurd stands
-step_place blocks (At minor at) raw stands = ap (λ n. n + 1) stands
-step_place blocks (Failed why) raw stands = absurd stands

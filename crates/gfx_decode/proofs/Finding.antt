@@ -17,7 +17,7 @@ use Rattle.gfx_io.specs.Told.{IfTold}
 use Rattle.gfx_decode.specs.declared.decoder.Raw.{Raw}
 use Rattle.gfx_decode.specs.declared.fault.DecodeFault.{DecodeFault}
 use Rattle.gfx_decode.specs.declared.fault.DecodeFault.TheVariants.{Bad, ReadFault, WantMemory}
-use Rattle.gfx_decode.specs.Decoding.{Gives, IsBlockAt, IsBlockHere, coming}
+use Rattle.gfx_decode.specs.Decoding.{Gives, IsBlockAt, IsBlockHere, coming, item_of}
 use Rattle.gfx_decode.specs.Reachable.{IsInReach}
 use Rattle.gfx_decode.specs.Reading.{IsFramed, ReadsSome, StopsAt}
 use Rattle.gfx_decode.specs.Stage.{Stage, At}
@@ -156,15 +156,20 @@ pub record FindsBlock (stage : Stage) (raw : Raw) (old new : Option (List ℕ)) 
   pub block : IsBlockAt stage raw
   pub bytes : Consumes old new raw.bytes.now
 
+-- the block comes first of whatever its bytes begin
+pub here_comes : (m : ℕ) (at : Position) (raw : Raw) (rest : List ℕ) → IsBlockHere m at raw
+    → blocks_from m at (raw.bytes.now ++ rest) ≡ with_item (item_of raw) (blocks_from m (next_position at raw.bytes.now) rest)
+here_comes m at raw rest here =
+    let c = content_of raw.block in
+    blocks_from-append m at raw.bytes.now rest c here.block here.counted
+    ∙ ap (λ n. with_item (record { number = n; offset = at.offset; bytes = raw.bytes.now; content = c }) (blocks_from m (next_position at raw.bytes.now) rest)) (sym here.number)
+    ∙ ap (λ n. with_item (record { number = raw.number; offset = n; bytes = raw.bytes.now; content = c }) (blocks_from m (next_position at raw.bytes.now) rest)) (sym here.offset)
+
 gives_item : (m : ℕ) (at : Position) (raw : Raw) (old new : Option (List ℕ)) → IsBlockHere m at raw → Consumes old new raw.bytes.now
     → IfTold old new (Gives (At m at) (Ok (Some raw)))
 gives_item m at raw None new here reads = tt
 gives_item m at raw (Some bytes) None here reads = absurd reads
-gives_item m at raw (Some bytes) (Some rest) here reads =
-    let c = content_of raw.block in
-    ap (blocks_from m at) reads ∙ blocks_from-append m at raw.bytes.now rest c here.block here.counted
-    ∙ ap (λ n. with_item (record { number = n; offset = at.offset; bytes = raw.bytes.now; content = c }) (blocks_from m (next_position at raw.bytes.now) rest)) (sym here.number)
-    ∙ ap (λ n. with_item (record { number = raw.number; offset = n; bytes = raw.bytes.now; content = c }) (blocks_from m (next_position at raw.bytes.now) rest)) (sym here.offset)
+gives_item m at raw (Some bytes) (Some rest) here reads = ap (blocks_from m at) reads ∙ here_comes m at raw rest here
 
 pub finds_block : (stage : Stage) (m : ℕ) (at : Position) (raw : Raw) (old new : Option (List ℕ)) (buffer held : List ℕ)
     → stage ≡ At m at → raw.number ≡ at.number → raw.offset ≡ at.offset → raw.bytes.now ≡ buffer → held ≡ buffer

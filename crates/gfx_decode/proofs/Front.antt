@@ -90,14 +90,19 @@ options_stop header start old mid new WantMemory h reads stops = absurd stops
 abbrev behind_options : ℕ → Position
 behind_options n = record { number = 1; offset = 16 + 8 * n; in_section = false; inside = 0; outside = 0 }
 
+-- the blocks behind a header in order, whatever they are
+pub behind_header : (header : Header) (bytes rest : List ℕ) → IsHeader header bytes → blocks_of (bytes ++ rest) ≡ blocks_from header.minor (start_of header) rest
+behind_header header bytes rest is =
+    blocks_of-header bytes rest is.good
+    ∙ ap (λ m. blocks_from m (first_position bytes) rest) (sym is.minor)
+    ∙ ap (λ n. blocks_from header.minor (behind_options n) rest) (sym is.options)
+
 pub header_gives : (old new : Option (List ℕ)) (header : Header) (bytes : List ℕ) → IsHeader header bytes → Consumes old new bytes
     → IfTold old new (GivesHeader (Ok header))
 header_gives None new header bytes is reads = tt
 header_gives (Some all) None header bytes is reads = absurd reads
 header_gives (Some all) (Some rest) header bytes is reads = (
-  ap blocks_of reads ∙ blocks_of-header bytes rest is.good
-      ∙ ap (λ m. blocks_from m (first_position bytes) rest) (sym is.minor)
-      ∙ ap (λ n. blocks_from header.minor (behind_options n) rest) (sym is.options),
+  ap blocks_of reads ∙ behind_header header bytes rest is,
   is.minor ∙ sym (ap minor_of reads ∙ minor_of-append bytes rest is.good.there),
 )
 

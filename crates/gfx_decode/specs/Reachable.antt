@@ -21,3 +21,9 @@ abbrev pub blocks_ahead : Stage → ℕ
 blocks_ahead Fresh = 2 ^ 33 + 2
 blocks_ahead (At minor at) = 2 ^ 33 + 2 - at.number
 blocks_ahead (Failed why) = 0
+
+-- so many blocks or more were read
+abbrev pub IsBehind : ℕ → Stage → Type 0
+IsBehind count Fresh = ⊥
+IsBehind count (At minor at) = count + 1 ≤ at.number
+IsBehind count (Failed why) = ⊥

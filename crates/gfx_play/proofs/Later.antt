@@ -23,26 +23,9 @@ use Rattle.gfx_decode.specs.Decoding.{coming}
 use Rattle.gfx_play.specs.declared.asked.Asked.{Asked}
 use Rattle.gfx_play.specs.declared.asked.Asked.TheVariants as asked
 use Rattle.gfx_play.specs.Asked.{is_asked, is_last, first_of, asked_of, has_last}
-use Rattle.gfx_play.specs.Meanings.{judged_of, frames_in}
-use Rattle.gfx_play.specs.Fed.{history_of, IsFed}
-use Rattle.gfx_play.proofs.Judging.{judge_on}
-
--- the frames of a file, those of the blocks that were read first
-pub record Longer (h : List Event) (fs : List Frame) : Type 0 where
-  pub good : List Whole
-  pub is : fs ≡ frames h ++ frames_after h (events_in good)
-  pub valid : is_valid (events_onto good h) ≡ true
-
-pub longer : (fed : List Whole) (stage : Stage) (all rest : List ℕ) → IsFed fed stage all rest → is_valid (history_of fed) ≡ true → Longer (history_of fed) (frames_in all)
-longer fed stage all rest f valid =
-    let h = history_of fed in
-    let p = prefix (coming stage rest).items h (coming stage rest).end valid in
-    record {
-      good = p.good;
-      is = ap (λ (j : Judged). frames j.history) (ap judged_of f.blocks ∙ judge_on fed (coming stage rest).items [] (coming stage rest).end valid)
-          ∙ ap frames (p.history ∙ onto_events p.good h) ∙ frames_parts (events_in p.good) h;
-      valid = p.valid;
-    }
+use Rattle.gfx_decode.specs.Meanings.{judged_of, frames_in}
+use Rattle.gfx_decode.specs.Fed.{history_of, IsFed}
+use Rattle.gfx_decode.proofs.Judging.{longer}
 
 -- no frame behind a number is asked for
 none_asked : (a b first : ℕ) (fs : List Frame) → AllByRecursion (λ (f : Frame). b < f.number) fs → filter (λ (f : Frame). is_asked (asked.Between a b) first f.number) fs ≡ []

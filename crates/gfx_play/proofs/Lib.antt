@@ -1,9 +1,5 @@
-pub mod Feeding
-pub mod Judging
 pub mod Asking
 pub mod Taking
 pub mod Later
 pub mod Playing
-pub mod Told
 pub mod Showing
-pub mod Places

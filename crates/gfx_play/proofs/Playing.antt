@@ -21,10 +21,11 @@ use Rattle.gfx_model.specs.Meaning.{Judged, content_onto, content_fault}
 use Rattle.gfx_model.specs.Text.{frame_lines, count_line}
 use Rattle.gfx_laws.specs.Laws.{frames_after}
 use Rattle.gfx_grammar.specs.Splitting.{blocks_of, with_item, only_end}
-use Rattle.gfx_trim_law.proofs.Cuts.{events_in}
+use Rattle.gfx_trim_law.proofs.Cuts.{events_in, onto_parts}
 use Rattle.gfx_blocks.specs.declared.header.Header.{Header}
 use Rattle.gfx_decode.specs.Stage.{Stage, At}
 use Rattle.gfx_decode.specs.Decoding.{GivesHeader, coming, start_of}
+use Rattle.gfx_decode.specs.Reading.{IsHeader}
 use Rattle.gfx_tracker.specs.Tracker.{answers}
 use Rattle.gfx_frames.specs.declared.lines.Listing.{Listing}
 use Rattle.gfx_frames.proofs.Appending.{appends_none, appends_then, part_of, part_then, whole_part}
@@ -33,15 +34,15 @@ use Rattle.gfx_play.specs.declared.asked.Asked.{Asked}
 use Rattle.gfx_play.specs.declared.asked.Asked.TheVariants as asked
 use Rattle.gfx_play.specs.declared.screen.Screen.{Screen}
 use Rattle.gfx_play.specs.Asked.{is_asked, is_last, first_of, asked_of, has_last}
-use Rattle.gfx_play.specs.Meanings.{judged_of, frames_in, end_of}
+use Rattle.gfx_decode.specs.Meanings.{judged_of, frames_in, end_of}
 use Rattle.gfx_play.specs.Screens.{IsAfter, Takes, list_of, shown_by, first_with, lines_of, lines_by, ends_by}
-use Rattle.gfx_play.specs.Fed.{history_of, IsFed}
+use Rattle.gfx_decode.specs.Fed.{ComesNext, IsFed, history_of}
 use Rattle.gfx_play.specs.Played.{Played}
 use Rattle.gfx_play.specs.Shows.{text_in, IsShown, IsBadAt, IsWithout, IsRange, Leaves}
 use Rattle.gfx_play.proofs.Asking.{asked_more}
-use Rattle.gfx_play.proofs.Feeding.{fed_more, history-more}
-use Rattle.gfx_play.proofs.Judging.{judged_end, judged_fault}
-use Rattle.gfx_play.proofs.Later.{longer, last_shown}
+use Rattle.gfx_decode.proofs.Feeding.{fed_more, fed_none, next_comes}
+use Rattle.gfx_decode.proofs.Judging.{judged_end, judged_fault, longer}
+use Rattle.gfx_play.proofs.Later.{last_shown}
 use Rattle.gfx_play.proofs.Taking.{frames_none, frames_one}
 
 -- ---- what one block more shows
@@ -92,12 +93,12 @@ last_then a h c = by (frame_by h c) refl
 
 -- nothing was read but the header
 pub played_start : (a : Asked) (pixels : Bool) (all rest : List ℕ) (header : Header) (screen : Screen) (taken : Option (List ℕ)) →
-    GivesHeader (Ok header) all rest → (head : List ℕ) → all ≡ head ++ rest → IsAfter screen [] → screen.asked ≡ a → screen.listing ≡ record { minor = header.minor; pixels = pixels } →
+    GivesHeader (Ok header) all rest → (head : List ℕ) → IsHeader header head → all ≡ head ++ rest → IsAfter screen [] → screen.asked ≡ a → screen.listing ≡ record { minor = header.minor; pixels = pixels } →
     Played a pixels all (At header.minor (start_of header)) screen rest taken taken
 unfolding frames
-played_start a pixels all rest header screen taken gives head parts stands same listing = record {
+played_start a pixels all rest header screen taken gives head is parts stands same listing = record {
   fed = [];
-  fits = record { blocks = gives.0; head = head; parts = parts ∙ ap (λ l. l ++ rest) (sym (append-nil head)) };
+  fits = fed_none header all rest head is parts;
   stands = stands;
   asked = same;
   listing = listing ∙ ap (λ m. record { minor = m; pixels = pixels }) gives.1;
@@ -114,7 +115,7 @@ lines_then a pixels all was fed w same listed =
     let h = history_of fed in
     ap (λ xs. lines_of listing (asked_of a (frames h)) ++ xs) (ap (λ (l : Listing). lines_of l (asked_by was.asked h w.content)) listed ∙ ap (λ a. lines_of listing (asked_by a h w.content)) same)
     ∙ sym (lines_more listing (asked_of a (frames h)) (asked_by a h w.content))
-    ∙ ap (lines_of listing) (sym (asked_then a h w.content) ∙ ap (λ h. asked_of a (frames h)) (sym (history-more fed w [])))
+    ∙ ap (lines_of listing) (sym (asked_then a h w.content) ∙ ap (λ h. asked_of a (frames h)) (sym (onto_parts fed (w ∷ []) [])))
 
 -- what a block that is taken adds
 record Added (a : Asked) (pixels : Bool) (all : List ℕ) (fed : List Whole) (w : Whole) (stage : Stage) (screen : Screen) (rest : List ℕ) (before after : Option (List ℕ)) : Type 0 where
@@ -126,12 +127,12 @@ record Added (a : Asked) (pixels : Bool) (all : List ℕ) (fed : List Whole) (w 
 
 added : (a : Asked) (pixels : Bool) (all : List ℕ) (old new : Stage) (was now : Screen) (left rest : List ℕ) (before middle after : Option (List ℕ)) (w : Whole) (last : Bool)
     (p : Played a pixels all old was left before middle) →
-    coming old left ≡ with_item w (coming new rest) → left ≡ w.bytes ++ rest → Takes was now (history_of p.fed) w.content last → Appends middle after (lines_by was (history_of p.fed) w.content) →
+    ComesNext old new w → left ≡ w.bytes ++ rest → Takes was now (history_of p.fed) w.content last → Appends middle after (lines_by was (history_of p.fed) w.content) →
     Added a pixels all p.fed w new now rest before after
-added a pixels all old new was now left rest before middle after w last p gives took takes wrote =
-    let more = history-more p.fed w [] in
+added a pixels all old new was now left rest before middle after w last p comes took takes wrote =
+    let more = onto_parts p.fed (w ∷ []) [] in
     record {
-      fits = fed_more p.fed w old new all left rest p.fits gives took;
+      fits = fed_more p.fed w old new all left rest p.fits comes took;
       stands = subst (IsAfter now) (sym more) takes.after;
       asked = takes.asked ∙ p.asked;
       listing = takes.listing ∙ p.listing;
@@ -141,7 +142,7 @@ added a pixels all old new was now left rest before middle after w last p gives 
 last_is : (was : Screen) (a : Asked) (fed : List Whole) (w : Whole) (last : Bool) → was.asked ≡ a → has_last a (frames (history_of fed)) ≡ false → last ≡ ends_by was (history_of fed) w.content →
     has_last a (frames (history_of (fed ++ w ∷ []))) ≡ last
 last_is was a fed w last same unseen is =
-    ap (λ h. has_last a (frames h)) (history-more fed w []) ∙ last_then a (history_of fed) w.content
+    ap (λ h. has_last a (frames h)) (onto_parts fed (w ∷ []) []) ∙ last_then a (history_of fed) w.content
     ∙ ap (λ t. t || last_by a (history_of fed) w.content) unseen
     ∙ ap (λ a. last_by a (history_of fed) w.content) (sym same) ∙ sym is
 
@@ -193,10 +194,10 @@ played_front a pixels all stage screen rest before after p =
 -- one block more, that doesn't show the last
 pub played_more : (a : Asked) (pixels : Bool) (all : List ℕ) (old new : Stage) (was now : Screen) (left rest : List ℕ) (before middle after : Option (List ℕ)) (w : Whole)
     (p : Played a pixels all old was left before middle) →
-    coming old left ≡ with_item w (coming new rest) → left ≡ w.bytes ++ rest → Takes was now (history_of p.fed) w.content false → Appends middle after (lines_by was (history_of p.fed) w.content) →
+    ComesNext old new w → left ≡ w.bytes ++ rest → Takes was now (history_of p.fed) w.content false → Appends middle after (lines_by was (history_of p.fed) w.content) →
     Played a pixels all new now rest before after
-played_more a pixels all old new was now left rest before middle after w p gives took takes wrote =
-    let x = added a pixels all old new was now left rest before middle after w false p gives took takes wrote in
+played_more a pixels all old new was now left rest before middle after w p comes took takes wrote =
+    let x = added a pixels all old new was now left rest before middle after w false p comes took takes wrote in
     record { fed = p.fed ++ w ∷ []; fits = x.fits; stands = x.stands; asked = x.asked; listing = x.listing; unseen = last_is was a p.fed w false p.asked p.unseen takes.ends; text = x.text }
 
 -- ---- where it ends
@@ -229,11 +230,11 @@ played_bad a pixels all stage screen left before after fault block offset p is =
 
 -- the next block has a rule fault
 pub played_rule : (a : Asked) (pixels : Bool) (all : List ℕ) (old new : Stage) (screen : Screen) (left rest : List ℕ) (before after : Option (List ℕ)) (w : Whole) (fault : Fault)
-    (p : Played a pixels all old screen left before after) → coming old left ≡ with_item w (coming new rest) → content_fault (history_of p.fed) w.content ≡ Some fault →
+    (p : Played a pixels all old screen left before after) → ComesNext old new w → left ≡ w.bytes ++ rest → content_fault (history_of p.fed) w.content ≡ Some fault →
     IsBadAt a pixels before after fault w.number w.offset all
-played_rule a pixels all old new screen left rest before after w fault p gives broken =
+played_rule a pixels all old new screen left rest before after w fault p comes took broken =
     bad_so a pixels all (history_of p.fed) before after fault w.number w.offset
-    (record { is = judged_fault p.fed w (coming new rest) old all left fault p.fits (p.stands).replays.stands.valid gives broken }) p.unseen p.text
+    (record { is = judged_fault p.fed w (coming new rest) old all left fault p.fits (p.stands).replays.stands.valid (next_comes old new w left rest comes took) broken }) p.unseen p.text
 
 -- the text of all frames, and their number
 pub text_so : (a : Asked) (pixels : Bool) (all : List ℕ) (fs : List Frame) (n : ℕ) → asked_of a (frames_in all) ≡ asked_of a fs → n ≡ length (asked_of a fs) →
@@ -296,14 +297,14 @@ none_last (f ∷ fs) first = none_last fs first
 -- the last frame that is asked for was shown
 pub played_last : (a : Asked) (pixels : Bool) (all : List ℕ) (old new : Stage) (was now : Screen) (left rest : List ℕ) (before middle later after : Option (List ℕ)) (w : Whole)
     (p : Played a pixels all old was left before middle) →
-    coming old left ≡ with_item w (coming new rest) → left ≡ w.bytes ++ rest → Takes was now (history_of p.fed) w.content true → Appends middle later (lines_by was (history_of p.fed) w.content) →
+    ComesNext old new w → left ≡ w.bytes ++ rest → Takes was now (history_of p.fed) w.content true → Appends middle later (lines_by was (history_of p.fed) w.content) →
     Appends later after (count_line (codes "frames") now.count) → IsShown a pixels before after all × Leaves a all rest
-played_last asked.All pixels all old new was now left rest before middle later after w p gives took takes wrote counting =
-    let x = added asked.All pixels all old new was now left rest before middle later w true p gives took takes wrote in
+played_last asked.All pixels all old new was now left rest before middle later after w p comes took takes wrote counting =
+    let x = added asked.All pixels all old new was now left rest before middle later w true p comes took takes wrote in
     let none : false ≡ true = sym (none_last (frames (history_of (p.fed ++ w ∷ []))) (unwrap_or (first_of (frames (history_of (p.fed ++ w ∷ [])))) 0)) ∙ last_is was asked.All p.fed w true p.asked p.unseen takes.ends in
     absurd cc
-played_last (asked.Between a b) pixels all old new was now left rest before middle later after w p gives took takes wrote counting =
-    let x = added (asked.Between a b) pixels all old new was now left rest before middle later w true p gives took takes wrote in
+played_last (asked.Between a b) pixels all old new was now left rest before middle later after w p comes took takes wrote counting =
+    let x = added (asked.Between a b) pixels all old new was now left rest before middle later w true p comes took takes wrote in
     let fed = p.fed ++ w ∷ [] in
     let there = last_is was (asked.Between a b) p.fed w true p.asked p.unseen takes.ends in
     let l = last_shown a b fed new all rest x.fits (x.stands).replays.stands.valid there in (
@@ -325,13 +326,13 @@ end_front a pixels all stage screen left before middle after p is part =
 -- and behind the last frame that is asked for
 pub last_front : (a : Asked) (pixels : Bool) (all : List ℕ) (old new : Stage) (was now : Screen) (left rest : List ℕ) (before middle later after : Option (List ℕ)) (w : Whole)
     (p : Played a pixels all old was left before middle) →
-    coming old left ≡ with_item w (coming new rest) → left ≡ w.bytes ++ rest → Takes was now (history_of p.fed) w.content true → Appends middle later (lines_by was (history_of p.fed) w.content) →
+    ComesNext old new w → left ≡ w.bytes ++ rest → Takes was now (history_of p.fed) w.content true → Appends middle later (lines_by was (history_of p.fed) w.content) →
     AppendsPart later after (count_line (codes "frames") now.count) → AppendsPart before after (text_in a pixels all)
-last_front asked.All pixels all old new was now left rest before middle later after w p gives took takes wrote counting =
+last_front asked.All pixels all old new was now left rest before middle later after w p comes took takes wrote counting =
     let none : false ≡ true = sym (none_last (frames (history_of (p.fed ++ w ∷ []))) (unwrap_or (first_of (frames (history_of (p.fed ++ w ∷ [])))) 0)) ∙ last_is was asked.All p.fed w true p.asked p.unseen takes.ends in
     absurd cc
-last_front (asked.Between a b) pixels all old new was now left rest before middle later after w p gives took takes wrote counting =
-    let x = added (asked.Between a b) pixels all old new was now left rest before middle later w true p gives took takes wrote in
+last_front (asked.Between a b) pixels all old new was now left rest before middle later after w p comes took takes wrote counting =
+    let x = added (asked.Between a b) pixels all old new was now left rest before middle later w true p comes took takes wrote in
     let fed = p.fed ++ w ∷ [] in
     let there = last_is was (asked.Between a b) p.fed w true p.asked p.unseen takes.ends in
     let l = last_shown a b fed new all rest x.fits (x.stands).replays.stands.valid there in

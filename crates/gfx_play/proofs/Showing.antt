@@ -1,19 +1,17 @@
 -- How showing ends, by what the decoder, the screen and the sink answer.
-use Rattle.std.proofs.Common.{◌≡◌, ◌-◌, ℕ, Bool, true, false, List, [], ◌∷◌, ◌++◌, codes, Option, Some, None, Result, Ok, Err, refl, sym, ap, subst, ◌∙◌, ◌&&◌, is_none, arith}
+use Rattle.std.proofs.Common.{◌≡◌, ◌-◌, ℕ, Bool, true, false, List, [], ◌∷◌, ◌++◌, codes, Option, Some, None, Result, Ok, Err, refl, sym, ap, subst, ◌∙◌, arith}
 use Rattle.std.specs.Prelude.{OnOk, IfErr, unwrap_or}
 use Rattle.std.specs.Io.KnownBytes.{Appends}
 use Rattle.gfx_io.specs.Pieces.{AppendsPart}
 use Rattle.gfx_types.specs.declared.names.Fault.{Fault}
-use Rattle.gfx_model.specs.Events.{Event}
-use Rattle.gfx_model.specs.Blocks.{Whole, Content, minor_of}
-use Rattle.gfx_model.specs.Blocks.Content.{skipped, effect}
-use Rattle.gfx_model.specs.History.{is_valid, fault}
+use Rattle.gfx_model.specs.Blocks.{Whole, minor_of}
+use Rattle.gfx_model.specs.History.{is_valid}
 use Rattle.gfx_model.specs.Frames.{frames}
-use Rattle.gfx_model.specs.Meaning.{judge, content_onto, content_fault}
+use Rattle.gfx_model.specs.Meaning.{judge, content_fault}
 use Rattle.gfx_model.specs.Text.{count_line}
-use Rattle.gfx_grammar.specs.Splitting.{with_item}
+use Rattle.gfx_trim_law.proofs.Cuts.{onto_parts}
 use Rattle.gfx_decode.specs.Stage.{Stage}
-use Rattle.gfx_decode.specs.Decoding.{Gives, GivesHeader, coming, behind, item_of}
+use Rattle.gfx_decode.specs.Decoding.{Gives, GivesHeader, IsBlockAt, behind, item_of}
 use Rattle.gfx_decode.specs.declared.decoder.Raw.{Raw}
 use Rattle.gfx_decode.specs.declared.fault.DecodeFault.{DecodeFault}
 use Rattle.gfx_decode.specs.declared.fault.DecodeFault.TheVariants as decoder
@@ -27,12 +25,13 @@ use Rattle.gfx_play.specs.declared.fault.ShowFault.{ShowFault}
 use Rattle.gfx_play.specs.declared.fault.ShowFault.TheVariants as show
 use Rattle.gfx_play.specs.Asked.{asked_of}
 use Rattle.gfx_play.specs.Faults.{of_decoder, of_printer}
-use Rattle.gfx_play.specs.Meanings.{judged_of}
+use Rattle.gfx_decode.specs.Meanings.{judged_of}
 use Rattle.gfx_play.specs.Screens.{EndsOnly, Refuses, lines_of, lines_by, next_frame_of}
-use Rattle.gfx_play.specs.Fed.{history_of}
+use Rattle.gfx_decode.specs.Fed.{ComesNext, history_of}
 use Rattle.gfx_play.specs.Played.{Played}
 use Rattle.gfx_play.specs.Shows.{Answers, IsBadAt, IsRange, IsShown, IsWithout, Leaves, text_in}
-use Rattle.gfx_play.proofs.Feeding.{fed_more, history-more}
+use Rattle.gfx_decode.proofs.Feeding.{block_comes, fed_more}
+use Rattle.gfx_decode.proofs.Judging.{valid_more}
 use Rattle.gfx_play.proofs.Playing.{played_bad, played_front, played_rule, bad_so, played_all, played_without, end_front, front_of, lines_then}
 
 -- ---- the header
@@ -57,38 +56,29 @@ next_fails a pixels all stage screen left rest before after decoder.WantMemory p
 
 -- ---- a block that is not taken, or whose frame is not written whole
 
-valid_more : (h : List Event) (c : Content) → is_valid h ≡ true → content_fault h c ≡ None → is_valid (content_onto c h) ≡ true
-valid_more h skipped valid none = valid
-valid_more h (effect thread e) valid none = both (is_valid h) (fault h e) valid none
-  where
-    both : (t : Bool) (o : Option Fault) → t ≡ true → o ≡ None → (t && is_none o) ≡ true
-    both true None valid none = refl
-    both true (Some f) valid none = absurd cc
-    both false o valid none = absurd cc
-
 -- a front of what the block adds was written
 front_more : (a : Asked) (pixels : Bool) (all : List ℕ) (old new : Stage) (was : Screen) (left rest : List ℕ) (before middle after : Option (List ℕ)) (w : Whole) (p : Played a pixels all old was left before middle) →
-    coming old left ≡ with_item w (coming new rest) → left ≡ w.bytes ++ rest → content_fault (history_of p.fed) w.content ≡ None → AppendsPart middle after (lines_by was (history_of p.fed) w.content) →
+    ComesNext old new w → left ≡ w.bytes ++ rest → content_fault (history_of p.fed) w.content ≡ None → AppendsPart middle after (lines_by was (history_of p.fed) w.content) →
     AppendsPart before after (text_in a pixels all)
-front_more a pixels all old new was left rest before middle after w p gives took none wrote =
+front_more a pixels all old new was left rest before middle after w p comes took none wrote =
     let h = history_of p.fed in
-    front_of a pixels all (p.fed ++ w ∷ []) new rest before after (fed_more p.fed w old new all left rest p.fits gives took)
-    (subst (λ h. is_valid h ≡ true) (sym (history-more p.fed w [])) (valid_more h w.content (p.stands).replays.stands.valid none))
+    front_of a pixels all (p.fed ++ w ∷ []) new rest before after (fed_more p.fed w old new all left rest p.fits comes took)
+    (subst (λ h. is_valid h ≡ true) (sym (onto_parts p.fed (w ∷ []) [])) (valid_more h w.content (p.stands).replays.stands.valid none))
     (subst (AppendsPart before after) (lines_then a pixels all was p.fed w p.asked p.listing)
     (part_then before middle after (lines_of (record { minor = minor_of all; pixels = pixels }) (asked_of a (frames h))) (lines_by was h w.content) p.text wrote))
 
 pub take_fails : (a : Asked) (pixels : Bool) (all : List ℕ) (old : Stage) (was : Screen) (left rest : List ℕ) (before middle after : Option (List ℕ)) (raw : Raw) (why : ShowFault) (p : Played a pixels all old was left before middle) →
-    Gives old (Ok (Some raw)) left rest → left ≡ raw.bytes.now ++ rest → Refuses (history_of p.fed) (item_of raw) why →
+    IsBlockAt old raw → left ≡ raw.bytes.now ++ rest → Refuses (history_of p.fed) (item_of raw) why →
     ((fault : Fault) (block offset : ℕ) → why ≡ show.Bad fault block offset → after ≡ middle) →
     AppendsPart middle after (lines_by was (history_of p.fed) (item_of raw).content) → Answers a pixels before after (Err why) all rest
-take_fails a pixels all old was left rest before middle after raw (show.Bad fault block offset) p gives took refuses same wrote =
-    let is : IsBadAt a pixels before middle fault raw.number raw.offset all = played_rule a pixels all old (behind old raw) was left rest before middle (item_of raw) fault p gives refuses.2 in
+take_fails a pixels all old was left rest before middle after raw (show.Bad fault block offset) p block_is took refuses same wrote =
+    let is : IsBadAt a pixels before middle fault raw.number raw.offset all = played_rule a pixels all old (behind old raw) was left rest before middle (item_of raw) fault p (block_comes old raw block_is) took refuses.2 in
     let here : IsBadAt a pixels before middle fault block offset all = subst (λ n. IsBadAt a pixels before middle fault n offset all) (sym refuses.0) (subst (λ n. IsBadAt a pixels before middle fault raw.number n all) (sym refuses.1) is) in
     subst (λ t. IsBadAt a pixels before t fault block offset all) (sym (same fault block offset refl)) here
-take_fails a pixels all old was left rest before middle after raw (show.NoSuchFrame first last) p gives took refuses same wrote = absurd refuses
-take_fails a pixels all old was left rest before middle after raw show.ReadFault p gives took refuses same wrote = absurd refuses
-take_fails a pixels all old was left rest before middle after raw show.SinkFault p gives took refuses same wrote = front_more a pixels all old (behind old raw) was left rest before middle after (item_of raw) p gives took refuses wrote
-take_fails a pixels all old was left rest before middle after raw show.WantMemory p gives took refuses same wrote = front_more a pixels all old (behind old raw) was left rest before middle after (item_of raw) p gives took refuses wrote
+take_fails a pixels all old was left rest before middle after raw (show.NoSuchFrame first last) p here took refuses same wrote = absurd refuses
+take_fails a pixels all old was left rest before middle after raw show.ReadFault p here took refuses same wrote = absurd refuses
+take_fails a pixels all old was left rest before middle after raw show.SinkFault p here took refuses same wrote = front_more a pixels all old (behind old raw) was left rest before middle after (item_of raw) p (block_comes old raw here) took refuses wrote
+take_fails a pixels all old was left rest before middle after raw show.WantMemory p here took refuses same wrote = front_more a pixels all old (behind old raw) was left rest before middle after (item_of raw) p (block_comes old raw here) took refuses wrote
 
 -- ---- the number line
 

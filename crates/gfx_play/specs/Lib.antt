@@ -1,6 +1,4 @@
 pub mod Asked
-pub mod Meanings
-pub mod Fed
 pub mod Faults
 pub mod Screens
 pub mod Shows

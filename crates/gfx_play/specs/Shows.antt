@@ -16,8 +16,8 @@ use Rattle.gfx_model.specs.Frames.{frames}
 use Rattle.gfx_decode.specs.Stage.{Stage}
 use Rattle.gfx_play.specs.declared.fault.ShowFault.{ShowFault}
 use Rattle.gfx_play.specs.declared.fault.ShowFault.TheVariants as show
-use Rattle.gfx_play.specs.Fed.{history_of, IsFed}
-use Rattle.gfx_play.specs.Meanings.{judged_of, frames_in, end_of}
+use Rattle.gfx_decode.specs.Fed.{history_of, IsFed}
+use Rattle.gfx_decode.specs.Meanings.{judged_of, frames_in, end_of}
 use Rattle.gfx_play.specs.Screens.{lines_of}
 
 -- the lines of the frames that are asked for

@@ -5,7 +5,8 @@ ghost use Rattle.gfx_io.specs.Causes.{Rose};
 ghost use Rattle.gfx_io.specs.Told.{IfTold};
 ghost use Rattle.gfx_model.specs.Events.{Event};
 ghost use Rattle.gfx_play.specs.declared.asked.Asked.{Asked as Which};
-ghost use Rattle.gfx_play.specs.Played.{IsBehind, Played};
+ghost use Rattle.gfx_decode.specs.Reachable.{IsBehind};
+ghost use Rattle.gfx_play.specs.Played.{Played};
 ghost use Rattle.gfx_play.specs.Screens.{IsAfter};
 ghost use Rattle.gfx_play.specs.Shows.{Answers};
 

@@ -1,8 +1,8 @@
 use Rattle.std.proofs.Common.{◌≤◌}
 use Rattle.gfx_io.specs.Told.{IfTold}
 use Rattle.gfx_decode.specs.Decoding.{coming}
-use Rattle.gfx_decode.specs.Reachable.{blocks_ahead}
-use Rattle.gfx_cli.proofs.Counting.{IsSplit, StandsBehind}
+use Rattle.gfx_decode.specs.Reachable.{IsBehind, blocks_ahead}
+use Rattle.gfx_cli.proofs.Counting.{IsSplit}
 use Rattle.gfx_cli.proofs.counts.count.Given as goal
 
 -- the decoder stands behind the blocks that were counted
@@ -10,7 +10,7 @@ abbrev pub invariant-loop-buffer : goal.invariant-loop-buffer
 invariant-loop-buffer g l =
     let source = g.S.Source in
     record {
-      place : StandsBehind l.counts.blocks l.decoder;
+      place : IsBehind l.counts.blocks l.decoder;
       counted : IfTold (source.left l.fn.source) (source.left l.source) (λ all rest. IsSplit l.counts all (coming l.decoder rest));
       calls : l.counts.calls ≤ l.counts.blocks;
       frames : l.counts.frames ≤ l.counts.blocks;

@@ -2,15 +2,17 @@ use Rattle.std.proofs.Common.{◌≡◌, Some, None, Ok, Err, sym, ap, subst, �
 use Rattle.std.proofs.lemmas.Result.{err_from_is_err_and}
 use Rattle.gfx_io.specs.Told.{IfTold}
 use Rattle.gfx_blocks.specs.Payloads.{content_of}
-use Rattle.gfx_decode.specs.Decoding.{Gives, Goes, behind, item_of}
-use Rattle.gfx_play.specs.Fed.{history_of}
-use Rattle.gfx_play.specs.Played.{IsBehind, Played}
+use Rattle.gfx_decode.specs.Decoding.{Gives, Goes, IsBlockAt, behind, item_of}
+use Rattle.gfx_decode.proofs.Feeding.{block_comes}
+use Rattle.gfx_decode.specs.Fed.{history_of}
+use Rattle.gfx_decode.specs.Reachable.{IsBehind}
+use Rattle.gfx_play.specs.Played.{Played}
 use Rattle.gfx_play.specs.Screens.{Takes}
 use Rattle.gfx_play.specs.Shows.{Answers}
-use Rattle.gfx_play.proofs.Places.{behind_more}
+use Rattle.gfx_decode.proofs.Ahead.{behind_more}
 use Rattle.gfx_play.proofs.Playing.{last_front, played_last, played_more}
 use Rattle.gfx_play.proofs.Showing.{end_told, last_fails, next_fails, take_fails}
-use Rattle.gfx_play.proofs.Told.{told_bytes, told_end, told_through}
+use Rattle.gfx_decode.proofs.Told.{told_bytes, told_end, told_through}
 use Rattle.gfx_play.proofs.play.show_blocks.Goals as goal
 
 pub returns-in_err-raw-clause-told : goal.returns-in_err-raw-clause-told
@@ -31,7 +33,7 @@ returns-in_err-take_raw-clause-told g c a pixels file before start =
     subst (λ r. IfTold file (g.S.Source.left c.next.new.source) (Answers a pixels before after r)) (sym (p.1 ∙ ap Err p.2))
     (told_through file _ _ _ _ (Answers a pixels before after (Err _)) (c.loop-buffer.invariant.played a pixels file before start)
     (told_bytes _ _ raw.bytes.now (Gives c.loop-buffer.decoder (Ok (Some raw))) (rw c.in-Some.is at c.in_ok-raw.ensures.gives) (rw c.in-Some.is at c.in_ok-raw.ensures.bytes))
-    (λ all left rest played came. take_fails a pixels all c.loop-buffer.decoder c.loop-buffer.screen left rest before middle after raw c.in_err-take_raw.field-0.0 played came.0 came.1
+    (λ all left rest played came. take_fails a pixels all c.loop-buffer.decoder c.loop-buffer.screen left rest before middle after raw c.in_err-take_raw.field-0.0 played (rw c.in-Some.is at c.in_ok-raw.ensures.block) came.1
     (refused.err (history_of played.fed) played.stands)
     (λ fault block offset is. ap (λ s. g.K.Sink.taken s) (refused.refused fault block offset (ap Err is)))
     (refused.front (history_of played.fed) played.stands)))
@@ -49,8 +51,9 @@ returns-in_err-finish-clause-told g c a pixels file before start =
     (told_bytes _ _ raw.bytes.now (Gives stage (Ok (Some raw))) (rw c.in-Some.is at c.in_ok-raw.ensures.gives) (rw c.in-Some.is at c.in_ok-raw.ensures.bytes))
     (λ all left rest played came.
     let took = c.in_ok-take_raw.ensures.ok (history_of played.fed) played.stands in
+    let here : IsBlockAt stage raw = rw c.in-Some.is at c.in_ok-raw.ensures.block in
     last_fails c.in_err-finish.field-0.0 a pixels before after all rest
-    (last_front a pixels all stage (behind stage raw) c.loop-buffer.screen c.take_raw.new.self left rest before middle later after (item_of raw) played came.0 came.1
+    (last_front a pixels all stage (behind stage raw) c.loop-buffer.screen c.take_raw.new.self left rest before middle later after (item_of raw) played (block_comes stage raw here) came.1
     (subst (Takes c.loop-buffer.screen c.take_raw.new.self (history_of played.fed) (content_of raw.block)) c.if-branch.true took.0) took.1 c.in_err-finish.ensures.front)))
 
 pub returns-then-branch-clause-told : goal.returns-then-branch-clause-told
@@ -64,7 +67,8 @@ returns-then-branch-clause-told g c a pixels file before start =
     (told_bytes _ _ raw.bytes.now (Gives stage (Ok (Some raw))) (rw c.in-Some.is at c.in_ok-raw.ensures.gives) (rw c.in-Some.is at c.in_ok-raw.ensures.bytes))
     (λ all left rest played came.
     let took = c.in_ok-take_raw.ensures.ok (history_of played.fed) played.stands in
-    played_last a pixels all stage (behind stage raw) c.loop-buffer.screen c.take_raw.new.self left rest before middle later after (item_of raw) played came.0 came.1
+    let here : IsBlockAt stage raw = rw c.in-Some.is at c.in_ok-raw.ensures.block in
+    played_last a pixels all stage (behind stage raw) c.loop-buffer.screen c.take_raw.new.self left rest before middle later after (item_of raw) played (block_comes stage raw here) came.1
     (subst (Takes c.loop-buffer.screen c.take_raw.new.self (history_of played.fed) (content_of raw.block)) c.if-branch.true took.0) took.1 c.in_ok-finish.ensures.ok)
 
 pub loop-buffer-preserved : goal.loop-buffer-preserved
@@ -85,7 +89,8 @@ loop-buffer-preserved g c =
           (told_bytes _ _ raw.bytes.now (Gives stage (Ok (Some raw))) (rw c.in-Some.is at c.in_ok-raw.ensures.gives) (rw c.in-Some.is at c.in_ok-raw.ensures.bytes))
           (λ all left rest played came.
           let took = c.in_ok-take_raw.ensures.ok (history_of played.fed) played.stands in
-          played_more a pixels all stage (behind stage raw) c.loop-buffer.screen c.take_raw.new.self left rest before middle after (item_of raw) played came.0 came.1
+          let here : IsBlockAt stage raw = rw c.in-Some.is at c.in_ok-raw.ensures.block in
+          played_more a pixels all stage (behind stage raw) c.loop-buffer.screen c.take_raw.new.self left rest before middle after (item_of raw) played (block_comes stage raw here) came.1
           (subst (Takes c.loop-buffer.screen c.take_raw.new.self (history_of played.fed) (content_of raw.block)) c.if-branch.false took.0) took.1));
       later_source = omega (arith, kept.later_source, c.in_ok-raw.ensures.later);
       later_sink = omega (arith, kept.later_sink, c.in_ok-take_raw.ensures.later);

@@ -4,7 +4,8 @@ use Rattle.gfx_model.specs.Events.{Event}
 use Rattle.gfx_decode.specs.Reachable.{blocks_ahead}
 use Rattle.gfx_play.specs.declared.asked.Asked.{Asked}
 use Rattle.gfx_play.specs.Screens.{IsAfter}
-use Rattle.gfx_play.specs.Played.{IsBehind, Played}
+use Rattle.gfx_decode.specs.Reachable.{IsBehind}
+use Rattle.gfx_play.specs.Played.{Played}
 use Rattle.gfx_play.proofs.play.show_blocks.Given as goal
 
 abbrev pub invariant-loop-buffer : goal.invariant-loop-buffer
