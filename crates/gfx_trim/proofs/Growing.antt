@@ -104,14 +104,14 @@ some_on ws w some = list_any-append (λ (w : Whole). acts w.content) ws (w ∷ [
     or_false false = refl
 
 -- one block more of the range, among which is an effect
-pub record GoesOn (m first last : ℕ) (ws : List Whole) (w : Whole) : Type 0 where
+pub record Extends (m first last : ℕ) (ws : List Whole) (w : Whole) : Type 0 where
   pub there : has_boundary first (ws ++ w ∷ []) ≡ true
   pub cut : boundary first (ws ++ w ∷ []) ≡ behind (boundary first ws) (w ∷ [])
   pub range : has_effect (range_in first last (ws ++ w ∷ [])) ≡ true
   pub text : written_of m first last (ws ++ w ∷ []) ≡ file_of m (section (history_to (boundary first ws)) first) (boundary first ws).rest ++ w.bytes
 
 pub goes_on : (m first last : ℕ) (ws : List Whole) (w : Whole) → has_boundary first ws ≡ true → has_section (ws ++ w ∷ []) ≡ has_section ws →
-    reaches (last + 1) (history_to (boundary first ws)) (boundary first ws).rest ≡ false → (has_effect (boundary first ws).rest || acts w.content) ≡ true → GoesOn m first last ws w
+    reaches (last + 1) (history_to (boundary first ws)) (boundary first ws).rest ≡ false → (has_effect (boundary first ws).rest || acts w.content) ≡ true → Extends m first last ws w
 goes_on m first last ws w there same going some =
     let c : Cut = boundary first ws in
     let cut = boundary_on first ws (w ∷ []) there same in

@@ -4,4 +4,5 @@ pub mod Judging
 pub mod Keeping
 pub mod Numbers
 pub mod Phases
+pub mod Steps
 pub mod Versions

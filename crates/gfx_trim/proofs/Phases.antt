@@ -49,7 +49,7 @@ history_along first ws =
     by true = refl
     by false = cut_parts first [] ws
 
-closed_at : (first : ℕ) (ws : List Whole) → is_valid (events_onto ws []) ≡ true → has_boundary first ws ≡ true → (view (events_onto ws [])).section ≡ None
+pub closed_at : (first : ℕ) (ws : List Whole) → is_valid (events_onto ws []) ≡ true → has_boundary first ws ≡ true → (view (events_onto ws [])).section ≡ None
 closed_at first ws valid there =
     let b = at_boundary first ws valid there in
     ap (λ (h : List Event). (view h).section) (sym (history_along first ws)) ∙ closed_along (boundary first ws).rest (history_to (boundary first ws)) b.quiet b.closed

@@ -1,10 +1,14 @@
-//! A range of frames, cut out of a capture as it is read.
+//! A range of frames, cut out of a capture file as it is read.
 #![tactic(auto)]
 
-ghost use Rattle.std.specs.Prelude.{◌≡◌, ℕ};
-ghost use Rattle.gfx_trim.specs.Written.{written};
+mod cutter;
+mod fault;
+mod marks;
+mod opening;
+mod phase;
+#[cfg(test)]
+mod tests;
+mod trimming;
 
-/// Law.
-pub fn law()
-    ensures { (a b : ℕ) → a ≡ a }
-{}
+pub use fault::TrimFault;
+pub use trimming::trim;
