@@ -1,3 +1,4 @@
+pub mod Appending
 pub mod Cutting
 pub mod Growing
 pub mod Judging
@@ -5,4 +6,8 @@ pub mod Keeping
 pub mod Numbers
 pub mod Phases
 pub mod Steps
+pub mod Stored
+pub mod Taking
+pub mod Files
+pub mod Answering
 pub mod Versions

@@ -18,7 +18,7 @@ use Rattle.gfx_trim.specs.declared.fault.TrimFault.{TrimFault}
 use Rattle.gfx_trim.specs.declared.fault.TrimFault.TheVariants as trim
 use Rattle.gfx_trim.specs.Numbers.{first_of}
 use Rattle.gfx_trim.specs.Phases.{IsPhase}
-use Rattle.gfx_trim.specs.Written.{written_of}
+use Rattle.gfx_trim.specs.Written.{has_effect, range_in, written_of}
 
 -- a history was replayed
 pub record IsReplayed (c : Cutter) (h : List Event) : Type 0 where
@@ -70,6 +70,7 @@ pub record Ends (first last : ℕ) (fed : List Whole) (w : Whole) : Type 0 where
   pub valid : is_valid (history_of (fed ++ w ∷ [])) ≡ true
   pub there : has_boundary first (fed ++ w ∷ []) ≡ true
   pub reached : reaches (last + 1) (history_to (boundary first (fed ++ w ∷ []))) (boundary first (fed ++ w ∷ [])).rest ≡ true
+  pub some : has_effect (range_in first last (fed ++ w ∷ [])) ≡ true
   pub shows : number_by (history_of fed) w.content ≡ Some last
 
 -- a block was taken, and the cut goes on behind it
