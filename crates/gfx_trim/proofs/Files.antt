@@ -299,8 +299,10 @@ text_none : (m first last : ℕ) → written_of m first last [] ≡ []
 unfolding written_of cut_before
 text_none m first last = by (is_first first [])
   where
-    by : (b : Bool) → (if has_effect (range_from last (cond {A = Cut} b (record { front = []; rest = [] }) (record { front = []; rest = [] })))
-    then trimmed_by m first last (cond {A = Cut} b (record { front = []; rest = [] }) (record { front = []; rest = [] })) else []) ≡ []
+    text : Cut → List ℕ
+    text c = if has_effect (range_from last c) then trimmed_by m first last c else []
+
+    by : (b : Bool) → text (cond {A = Cut} b (record { front = []; rest = [] }) (record { front = []; rest = [] })) ≡ []
     by true = refl
     by false = refl
 

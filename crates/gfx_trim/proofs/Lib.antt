@@ -4,6 +4,7 @@ pub mod Growing
 pub mod Judging
 pub mod Keeping
 pub mod Numbers
+pub mod Fronts
 pub mod Phases
 pub mod Steps
 pub mod Stored

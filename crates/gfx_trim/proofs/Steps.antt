@@ -15,6 +15,7 @@ use Rattle.gfx_model.specs.History.{view, fault, is_valid}
 use Rattle.gfx_model.specs.Meaning.{content_onto, content_fault, events_onto}
 use Rattle.gfx_model.specs.Trimmed.{Cut, cuts_before, content_begins, has_section, reaches, boundary, has_boundary, history_to, file_of}
 use Rattle.gfx_trim_law.proofs.Clock.{end_checks}
+use Rattle.gfx_trim.specs.Cutters.{is_number, number_by}
 use Rattle.gfx_trim.specs.Phases.{IsBefore, IsWaiting, IsWriting, Continues}
 use Rattle.gfx_trim.specs.Written.{acts, has_effect, range_in, written_of}
 use Rattle.gfx_trim.proofs.Cutting.{behind, quiet_history, quiet_reaches, reaches_more}
@@ -104,17 +105,6 @@ extends m first last ws w g = goes_on m first last ws w g.there g.section g.goin
 pub waiting_history : (first : ℕ) (kept : List ℕ) (ws : List Whole) → IsWaiting first kept ws → history_to (boundary first ws) ≡ events_onto ws []
 waiting_history first kept ws g = sym (quiet_history (boundary first ws).rest (history_to (boundary first ws)) g.quiet) ∙ history_along first ws
 
--- a block with this number of a frame, or none, ends frame `last` or doesn't
-abbrev pub is_number : ℕ → Option ℕ → Bool
-is_number last None = false
-is_number last (Some n) = n == last
-
--- the number of the frame that a block shows, if it shows one
-abbrev pub presents : List Event → Content → Option ℕ
-presents h skipped = None
-presents h (effect thread (QueuePresentKHR queue waits images)) = Some (view h).next_frame
-presents h (effect thread _) = None
-
 -- whether frame `last` ends in the blocks with this one
 pub reached_by : (first last : ℕ) (ws : List Whole) (w : Whole) → Continues first last ws w →
     reaches (last + 1) (history_to (boundary first (ws ++ w ∷ []))) (boundary first (ws ++ w ∷ [])).rest ≡ cuts_before (last + 1) (events_onto ws []) w.content
@@ -145,14 +135,14 @@ still_writing first last ws w g none =
     or_none false = refl
 
 -- where no section is open, a block ends frame `last` if it is its present
-pub ends_frame : (last : ℕ) (h : List Event) (c : Content) → (view h).section ≡ None → content_fault h c ≡ None → cuts_before (last + 1) h c ≡ is_number last (presents h c)
+pub ends_frame : (last : ℕ) (h : List Event) (c : Content) → (view h).section ≡ None → content_fault h c ≡ None → cuts_before (last + 1) h c ≡ is_number last (number_by h c)
 ends_frame last h skipped closed fine = refl
 ends_frame last h (effect thread e) closed fine = by e fine
   where
     same : (n last : ℕ) → (n + 1 == last + 1) ≡ (n == last)
     same n last = grind (arith, nat_tests)
 
-    by : (e : Event) → fault h e ≡ None → cuts_before (last + 1) h (effect thread e) ≡ is_number last (presents h (effect thread e))
+    by : (e : Event) → fault h e ≡ None → cuts_before (last + 1) h (effect thread e) ≡ is_number last (number_by h (effect thread e))
     by (QueuePresentKHR queue waits images) fine = same (view h).next_frame last
     by (EndSection frame) fine = let is_open : None ≡ Some frame = sym closed ∙ end_checks frame h fine in absurd cc
     by (CreateInstance instance api) fine = refl

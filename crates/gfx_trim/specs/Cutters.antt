@@ -1,5 +1,5 @@
 -- What a cutter stands for, and what a block does to it.
-use Rattle.std.specs.Prelude.{◌≡◌, ℕ, ◌+◌, Bool, true, false, List, [], ◌∷◌, ◌++◌, flat_map, Option, Some, None, option_map, ⊤}
+use Rattle.std.specs.Prelude.{◌≡◌, ℕ, ◌+◌, ◌==◌, Bool, true, false, List, [], ◌∷◌, ◌++◌, flat_map, Option, Some, None, option_map, ⊤}
 use Rattle.gfx_types.specs.declared.names.Fault.{Fault}
 use Rattle.gfx_model.specs.Events.{Event}
 use Rattle.gfx_model.specs.Blocks.{Content, Whole}
@@ -57,8 +57,13 @@ pub record IsReplayedAlike (old new : Cutter) : Type 0 where
 abbrev pub number_by : List Event → Content → Option ℕ
 number_by h c = option_map (λ f. f.number) (frame_by h c)
 
+-- whether this is the number of a frame
+abbrev pub is_number : ℕ → Option ℕ → Bool
+is_number last None = false
+is_number last (Some n) = n == last
+
 -- what is written before the first effect of a range
-abbrev pub opening : (m : ℕ) → List Event → (first : ℕ) → (kept : List ℕ) → List ℕ
+unfoldable pub opening : (m : ℕ) → List Event → (first : ℕ) → (kept : List ℕ) → List ℕ
 opening m h first kept = header m ++ flat_map (encoding m 0) (section h first) ++ kept
 
 -- what is written of these blocks

@@ -1,5 +1,5 @@
 //! A cut of a capture, made as its blocks are read.
-ghost use Rattle.std.specs.Prelude.{◌≡◌, ◌≤◌, ◌-◌, ◌∷◌, ◌++◌, ℕ, List, [], Ok, Err, IfOk, IfErr, OnOk, unwrap_or};
+ghost use Rattle.std.specs.Prelude.{◌≡◌, ◌≤◌, ◌-◌, ◌∷◌, ◌++◌, ℕ, List, [], false, Ok, Err, IfOk, IfErr, OnOk, unwrap_or};
 ghost use Rattle.std.specs.declared.option.Option.{Option as Maybe};
 ghost use Rattle.std.specs.Io.KnownBytes.{Appends};
 ghost use Rattle.gfx_io.specs.Causes.{Rose};
@@ -15,7 +15,7 @@ ghost use Rattle.gfx_decode.specs.Fed.{history_of};
 ghost use Rattle.gfx_trim.specs.Cutters.{number_by};
 
 use crate::TrimFault;
-use crate::marks::{begins_behind, begins_section};
+use crate::marks::{begins_behind, begins_section, shows_frame};
 use crate::opening::write_opening;
 use crate::phase::Phase;
 use gfx_decode::Raw;
@@ -161,7 +161,7 @@ impl Cutter {
         effect: &Effect<'_>,
         sink: &mut K,
     ) -> Result<bool, TrimFault>
-        requires effect { content_of raw.now.block ≡ of_effect 0 (event_of effect.now) }
+        requires effect { (thread : ℕ) × (content_of raw.now.block ≡ of_effect thread (event_of effect.now)) }
         requires after { (h : List Event) × IsReplayed self.old h }
         ensures ok { IfOk result (λ last. (fed : List Whole) → IsReplayed self.old (history_of fed) → Continues self.old.first self.old.last fed (item_of raw.now) → Takes last self.old self.new fed (item_of raw.now)) }
         ensures bytes { OnOk result ((h : List Event) → IsReplayed self.old h → Appends (K.taken sink.old) (K.taken sink.new) (opening self.old.minor h self.old.first self.old.kept.items ++ raw.now.bytes.now)) }
@@ -198,7 +198,7 @@ impl Cutter {
     {
         let number = self.feed(raw)?;
         write_whole(sink, raw.bytes)?;
-        Ok(number == Some(self.last))
+        Ok(shows_frame(self.last, number))
     }
 
     /// Replays a block, and answers the number of the frame that it shows.

@@ -6,8 +6,6 @@ mod fault;
 mod marks;
 mod opening;
 mod phase;
-#[cfg(test)]
-mod tests;
 mod trimming;
 
 pub use fault::TrimFault;

@@ -3,7 +3,7 @@ ghost use Rattle.std.specs.Prelude.{◌≡◌, List, false};
 ghost use Rattle.gfx_model.specs.Events.{Event};
 ghost use Rattle.gfx_model.specs.Trimmed.{content_begins, cuts_before};
 ghost use Rattle.gfx_blocks.specs.Payloads.{content_of};
-ghost use Rattle.gfx_trim.specs.Cutters.{number_by};
+ghost use Rattle.gfx_trim.specs.Cutters.{is_number, number_by};
 ghost use Rattle.gfx_trim.specs.Marks.{ends_at};
 
 use gfx_types::{Block, Effect};
@@ -41,5 +41,15 @@ pub(crate) fn begins_behind(first: u64, block: &Block<'_>, number: Option<u64>) 
     match number {
         Some(number) => number < first && first - number == 1,
         None => ends_section(first, block),
+    }
+}
+
+/// Whether the frame that is shown, if one is, has this number.
+pub(crate) fn shows_frame(last: u64, number: Option<u64>) -> bool
+    ensures { result ≡ is_number last number }
+{
+    match number {
+        Some(number) => number == last,
+        None => false,
     }
 }
