@@ -1,8 +1,8 @@
 -- A block that a cutter takes.
-use Rattle.std.proofs.Common.{◌≡◌, ℕ, ◌+◌, ◌==◌, ◌&&◌, ◌||◌, cond, Bool, true, false, List, [], ◌∷◌, ◌++◌, Option, Some, None, Result, Ok, Err, OnOk, refl, sym, ap, subst, ◌∙◌}
+use Rattle.std.proofs.Common.{◌≡◌, ◌≢◌, ℕ, ◌+◌, ◌==◌, ◌&&◌, ◌||◌, cond, Bool, true, false, List, [], ◌∷◌, ◌++◌, Option, Some, None, Result, Ok, Err, OnOk, refl, sym, ap, subst, ◌∙◌}
 use Rattle.std.specs.Prelude.{flat_map, IfOk, unwrap_or, option_map}
 use Rattle.std.specs.Io.KnownBytes.{Appends}
-use Rattle.std.proofs.lemmas.Bool.{eqb-true}
+use Rattle.std.proofs.lemmas.Bool.{eq-eqb, eqb-true}
 use Rattle.std.proofs.lemmas.List.{append-nil}
 use Rattle.gfx_io.specs.Pieces.{AppendsPart}
 use Rattle.gfx_types.specs.declared.frame.Frame.{Frame}
@@ -109,15 +109,22 @@ none_rest first = by (is_first first [])
     by true = refl
     by false = refl
 
-pub start_waiting : (first last : ℕ) (kept : List ℕ) (p : Phase) → (first == 1) ≡ true → kept ≡ [] → p ≡ phase.Waiting → IsPhase p first last kept []
+pub start_waiting : (first last : ℕ) (kept : List ℕ) (p : Phase) → first ≡ 1 → kept ≡ [] → p ≡ phase.Waiting → IsPhase p first last kept []
 start_waiting first last kept p one none is = subst (λ p. IsPhase p first last kept []) (sym is) (record {
-  there = ap (λ b. b && true || false) one;
+  there = ap (λ b. b && true || false) (eq-eqb first 1 one);
   quiet = ap has_effect (none_rest first);
   same = none ∙ ap (λ (ws : List Whole). flat_map (λ w. w.bytes) ws) (sym (none_rest first));
 })
 
-pub start_before : (first last : ℕ) (kept : List ℕ) (p : Phase) → (first == 1) ≡ false → kept ≡ [] → p ≡ phase.Before → IsPhase p first last kept []
-start_before first last kept p other none is = subst (λ p. IsPhase p first last kept []) (sym is) (record { ahead = ap (λ b. b && true || false) other; none = none })
+other_number : (n m : ℕ) → n ≢ m → (n == m) ≡ false
+other_number n m other = by (n == m) refl
+  where
+    by : (b : Bool) → (n == m) ≡ b → b ≡ false
+    by true is = absurd (other (eqb-true n m is))
+    by false is = refl
+
+pub start_before : (first last : ℕ) (kept : List ℕ) (p : Phase) → first ≢ 1 → kept ≡ [] → p ≡ phase.Before → IsPhase p first last kept []
+start_before first last kept p other none is = subst (λ p. IsPhase p first last kept []) (sym is) (record { ahead = ap (λ b. b && true || false) (other_number first 1 other); none = none })
 
 pub after_new : (c : Cutter) → StandsFor c.replayer [] → c.seen ≡ None → IsPhase c.phase c.first c.last c.kept.items [] → IsAfter c []
 unfolding frames

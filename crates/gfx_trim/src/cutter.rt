@@ -66,8 +66,29 @@ impl Cutter {
         }
     }
 
-    /// Takes a block, and writes what is to be written of it. Answers whether it was the last of the range.
+    /// Takes a block of a file, writes what is to be written of it, and lets go of it. Answers whether it was the last of the range.
     pub(crate) fn take<K: Sink>(
+        &mut self,
+        alloc: Global,
+        raw: Raw<'_>,
+        sink: &mut K,
+    ) -> Result<bool, TrimFault>
+        requires after { (fed : List Whole) × IsAfter self.old fed }
+        ensures ok { IfOk result (λ last. (fed : List Whole) → IsAfter self.old fed → Takes last self.old self.new fed (item_of raw.entry)) }
+        ensures text { OnOk result ((fed : List Whole) → (before : Maybe (List ℕ)) → IsAfter self.old fed → Appends before (K.taken sink.old) (text_by self.old fed)
+            → Appends before (K.taken sink.new) (text_by self.old (fed ++ item_of raw.entry ∷ []))) }
+        ensures err { IfErr result (λ why. (fed : List Whole) → IsAfter self.old fed → Refuses (history_of fed) (item_of raw.entry) why) }
+        ensures refused { (fault : FileFault) → (block : ℕ) → (offset : ℕ) → result ≡ Err (TrimFault.Bad fault block offset) → sink.new ≡ sink.old }
+        ensures front { (fed : List Whole) → (before : Maybe (List ℕ)) → IsAfter self.old fed → Appends before (K.taken sink.old) (text_by self.old fed)
+            → AppendsPart before (K.taken sink.new) (text_by self.old (fed ++ item_of raw.entry ∷ [])) }
+        ensures later { K.faults sink.old ≤ K.faults sink.new }
+        ensures cause { result ≡ Err TrimFault.SinkFault → Rose (K.faults sink.old) (K.faults sink.new) }
+    {
+        self.take_block(alloc, &raw, sink)
+    }
+
+    /// Takes a block by how far the cut is.
+    fn take_block<K: Sink>(
         &mut self,
         alloc: Global,
         raw: &Raw<'_>,

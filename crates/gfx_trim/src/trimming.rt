@@ -58,7 +58,7 @@ fn cut_blocks<S: Source, K: Sink>(
 {
     let mut buffer = Vec::new(alloc);
     while let Some(raw) = decoder.next(source, &mut buffer)? {
-        if cutter.take(alloc, &raw, sink)? {
+        if cutter.take(alloc, raw, sink)? {
             return Ok(());
         }
     }

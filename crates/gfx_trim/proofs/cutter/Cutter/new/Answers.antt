@@ -7,6 +7,6 @@ pub returns-clause-after : goal.returns-clause-after
 returns-clause-after c =
     after_new _ c.new.ensures refl
     (elim c.if-first-eq1.branch [
-      | then-first-eq1 w ↦ start_waiting c.args.first c.args.last _ _ w.if-first-eq1 c.new-2.ensures.items w.result-is
-      | else-first-eq1 w ↦ start_before c.args.first c.args.last _ _ w.if-first-eq1 c.new-2.ensures.items w.result-is
+      | then-first-eq1 w ↦ start_waiting c.args.first c.args.last _ _ w.if-first-eq1.true c.new-2.ensures.items w.result-is
+      | else-first-eq1 w ↦ start_before c.args.first c.args.last _ _ w.if-first-eq1.false c.new-2.ensures.items w.result-is
     ])
