@@ -2,8 +2,7 @@ use Rattle.std.proofs.Common.{◌≡◌, ◌-◌, ◌∷◌, ◌++◌, [], Some,
 use Rattle.std.specs.Prelude.{unwrap_or}
 use Rattle.std.proofs.lemmas.Result.{err_from_is_err_and}
 use Rattle.gfx_io.specs.Told.{IfTold}
-use Rattle.gfx_decode.specs.Decoding.{Gives, Goes, IsBlockAt, behind, item_of}
-use Rattle.gfx_decode.specs.Fed.{history_of}
+use Rattle.gfx_decode.specs.Decoding.{Gives, Goes, behind, item_of}
 use Rattle.gfx_decode.specs.Reachable.{IsBehind}
 use Rattle.gfx_decode.proofs.Ahead.{behind_more}
 use Rattle.gfx_decode.proofs.Feeding.{block_comes}

@@ -6,6 +6,7 @@ use Rattle.gfx_decode.specs.Stage.{At}
 use Rattle.gfx_decode.specs.Reachable.{IsBehind}
 use Rattle.gfx_decode.proofs.Ahead.{none_behind}
 use Rattle.gfx_decode.proofs.Told.{told_bytes, told_if}
+use Rattle.gfx_trim.specs.Faults.{of_decoder}
 use Rattle.gfx_trim.specs.Trims.{Answers, Cutting, KeepsIfDone}
 use Rattle.gfx_trim.proofs.Answering.{Both, header_fails}
 use Rattle.gfx_trim.proofs.Files.{start}
@@ -24,7 +25,7 @@ returns-in_err-header-clause-keeps g c =
     let p = err_from_is_err_and c.from_residual.result c.from_residual.ensures.1 in
     let taken = g.K.Sink.taken c.args.sink.now in
     subst (λ r. IfTold (g.S.Source.left c.args.source.now) (g.S.Source.left c.header.new.source) (KeepsIfDone c.args.first c.args.last taken taken r)) (sym (p.1 ∙ ap Err p.2))
-    (told_if _ _ _ (KeepsIfDone c.args.first c.args.last taken taken (Err _))
+    (told_if _ _ _ (KeepsIfDone c.args.first c.args.last taken taken (Err (of_decoder c.in_err-header.field-0.0)))
     (header_fails c.args.first c.args.last taken c.in_err-header.field-0.0 _ _ c.requires.ordered c.in_err-header.ensures.gives c.in_err-header.ensures.fault) (λ all left both. both.1))
 
 pub cut_blocks-requires-clause-place : goal.cut_blocks-requires-clause-place
