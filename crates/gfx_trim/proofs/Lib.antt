@@ -1,0 +1,14 @@
+pub mod Appending
+pub mod Cutting
+pub mod Growing
+pub mod Judging
+pub mod Keeping
+pub mod Numbers
+pub mod Fronts
+pub mod Phases
+pub mod Steps
+pub mod Stored
+pub mod Taking
+pub mod Files
+pub mod Answering
+pub mod Versions

@@ -1,0 +1,12 @@
+//! A range of frames, cut out of a capture file as it is read.
+#![tactic(auto)]
+
+mod cutter;
+mod fault;
+mod marks;
+mod opening;
+mod phase;
+mod trimming;
+
+pub use fault::TrimFault;
+pub use trimming::trim;
