@@ -90,7 +90,7 @@ trim_fails fault.SinkFault r before after all rest is = is
 trim_fails fault.WantMemory r before after all rest is = is
 
 pub trim_done : (r : FrameRange) (before after : Option (List ℕ)) (all rest : List ℕ) → trim.Answers r.first r.last before after (Ok tt) all rest → IsDone (Trim r) before after all rest
-trim_done r before after all rest is = record { good = is.inside; leaves = is.behind; text = is.file }
+trim_done r before after all rest is = record { good = is.inside; leaves = is.behind; text = subst (Appends before after) (sym is.all) is.file }
 
 -- ---- a text that needs no file
 

@@ -25,7 +25,8 @@ use std::alloc::Global;
 const HELP: &str =
     "usage: gfxcap info; replay [--pixels] [--frames A-B]; trim A-B; capture [--frames A-B]; make N
 A capture is read from standard input, and frames A to B are those with these numbers.
-info describes it, replay writes a line with the digest of each frame, with --pixels its rows too.
+info describes it, replay writes a line with the digest of each frame, with --pixels its rows too,
+and trim writes the capture of these frames alone.
 --help and --version alone write this text and the version.
 ";
 

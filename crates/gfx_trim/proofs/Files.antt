@@ -48,7 +48,7 @@ use Rattle.gfx_trim.specs.Trims.{Cutting, history_in, IsBadAt, IsCut, IsDone, Is
 use Rattle.gfx_trim.specs.Written.{has_effect, range_in, valid_from, valid_in, written, written_of}
 use Rattle.gfx_trim.proofs.Appending.{appends_none, part_of, whole_part}
 use Rattle.gfx_trim.proofs.Cutting.{quiet_reaches}
-use Rattle.gfx_trim.proofs.Growing.{grown, text_some}
+use Rattle.gfx_trim.proofs.Growing.{grown, text_some, text_whole}
 use Rattle.gfx_trim.proofs.Judging.{valid_bad, valid_none, valid_on}
 use Rattle.gfx_trim.proofs.Keeping.{HasShown, file_shows, kept, trimmed_then}
 use Rattle.gfx_trim.proofs.Numbers.{inside, outside}
@@ -272,6 +272,14 @@ done_text first last all stage rest c fed w first_is last_is minor_is e f =
     text_is first last all c (fed ++ w ∷ []) first_is last_is minor_is ∙ text_some (minor_of all) first last (fed ++ w ∷ []) e.some
     ∙ sym (trimmed_then first last (fed ++ w ∷ []) stage all rest (has_shown first last fed w e) f)
 
+-- and it is all that is written of the file
+whole_text : (first last : ℕ) (fed : List Whole) (w : Whole) (stage : Stage) (all rest : List ℕ) → Ends first last fed w → IsFed (fed ++ w ∷ []) stage all rest → written first last all ≡ trimmed first last all
+whole_text first last fed w stage all rest e f =
+    text_all first last (fed ++ w ∷ []) stage all rest f e.valid
+    ∙ text_whole (minor_of all) first last (fed ++ w ∷ []) (valid_from (history_of (fed ++ w ∷ [])) (coming stage rest).items) e.some e.reached
+    ∙ text_some (minor_of all) first last (fed ++ w ∷ []) e.some
+    ∙ sym (trimmed_then first last (fed ++ w ∷ []) stage all rest (has_shown first last fed w e) f)
+
 valid_history : (all : List ℕ) → is_valid (history_in all) ≡ true
 valid_history all = let p = prefix (blocks_of all).items [] (blocks_of all).end refl in ap is_valid p.history ∙ p.valid
 
@@ -288,6 +296,7 @@ cut_done first last all old new c left rest before middle after w ordered p come
             (file_shows first (p.fed ++ w ∷ []) new all rest h.valid f (begun_is_shown first last (p.fed ++ w ∷ []) h.valid h.there ordered h.shown))
             (file_shows last (p.fed ++ w ∷ []) new all rest h.valid f h.shown);
         file = file;
+        all = whole_text first last p.fed w new all rest e f;
         behind = record { fed = p.fed; block = w; stage = new; fits = f; shows = e.shows };
       },
       λ fit. kept first last (p.fed ++ w ∷ []) new all rest before after ordered h f fit file,

@@ -146,6 +146,20 @@ front_acts n h ws some =
     ap has_effect (sym (cut_parts n h ws)) ∙ list_any-append (λ (w : Whole). acts w.content) (cut_before n h ws).front (cut_before n h ws).rest
     ∙ or_left (has_effect (cut_before n h ws).front) (has_effect (cut_before n h ws).rest) some
 
+-- blocks behind a range that is whole don't matter for it
+pub text_whole : (m first last : ℕ) (ws more : List Whole) → has_effect (range_in first last ws) ≡ true → reaches (last + 1) (history_to (boundary first ws)) (boundary first ws).rest ≡ true →
+    written_of m first last (ws ++ more) ≡ written_of m first last ws
+text_whole m first last ws more some there =
+    let c : Cut = boundary first ws in
+    let begun = range_begun first last ws some in
+    let acting = begun_acts first ws begun (front_acts (last + 1) (history_to c) c.rest some) in
+    let cut = boundary_on first ws more begun (acted_section ws more acting) in
+    let same : range_in first last (ws ++ more) ≡ range_in first last ws = ap (range_from last) cut ∙ ap (λ (k : Cut). k.front) (cut_found (last + 1) (history_to c) c.rest more there) in
+    text_some m first last (ws ++ more) (ap has_effect same ∙ some)
+    ∙ ap (file_of m (section (history_to (boundary first (ws ++ more))) first)) same
+    ∙ ap (λ (k : Cut). file_of m (section (history_to k) first) (range_in first last ws)) cut
+    ∙ sym (text_some m first last ws some)
+
 pub grown : (m first last : ℕ) (ws more : List Whole) → Grown m first last ws more
 grown m first last ws more = by (has_effect (range_in first last ws)) refl
   where
@@ -153,15 +167,10 @@ grown m first last ws more = by (has_effect (range_in first last ws)) refl
     c = boundary first ws
 
     further : boundary first (ws ++ more) ≡ behind c more → has_effect (range_in first last ws) ≡ true → (b : Bool) → reaches (last + 1) (history_to c) c.rest ≡ b → Grown m first last ws more
-    further cut some true there =
-        let same : range_in first last (ws ++ more) ≡ range_in first last ws = ap (range_from last) cut ∙ ap (λ (k : Cut). k.front) (cut_found (last + 1) (history_to c) c.rest more there) in
-        record {
-          tail = [];
-          is = text_some m first last (ws ++ more) (ap has_effect same ∙ some)
-              ∙ ap (file_of m (section (history_to (boundary first (ws ++ more))) first)) same
-              ∙ ap (λ (k : Cut). file_of m (section (history_to k) first) (range_in first last ws)) cut
-              ∙ sym (text_some m first last ws some) ∙ sym (append-nil (written_of m first last ws));
-        }
+    further cut some true there = record {
+      tail = [];
+      is = text_whole m first last ws more some there ∙ sym (append-nil (written_of m first last ws));
+    }
     further cut some false going =
         let others : List Whole = (cut_before (last + 1) (events_onto c.rest (history_to c)) more).front in
         let all = range_all last c going in

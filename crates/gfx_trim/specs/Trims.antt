@@ -40,6 +40,8 @@ pub record IsBehindLast (last : ℕ) (bytes left : List ℕ) : Type 0 where
 pub record IsDone (first last : ℕ) (before after : Option (List ℕ)) (bytes left : List ℕ) : Type 0 where
   pub inside : IsInside first last (history_in bytes)
   pub file : Appends before after (trimmed first last bytes)
+  -- which is all that is written of it
+  pub all : written first last bytes ≡ trimmed first last bytes
   pub behind : IsBehindLast last bytes left
 
 -- the file has a bad block, before which the range is not whole

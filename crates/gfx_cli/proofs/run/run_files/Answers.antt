@@ -1,7 +1,8 @@
-use Rattle.std.proofs.Common.{inr, ap, refl, subst}
+use Rattle.std.proofs.Common.{inr, ap, refl, subst, sym}
 use Rattle.std.specs.Prelude.{Err, IfSome, map, string_bytes}
 use Rattle.std.specs.Io.KnownBytes.{Appends}
 use Rattle.gfx_decode.proofs.Told.{told_if}
+use Rattle.gfx_words.specs.declared.command.Command.TheVariants.{Trim}
 use Rattle.gfx_cli.specs.Commands.{IsGood}
 use Rattle.gfx_cli.specs.Ends.{Ends, Stops}
 use Rattle.gfx_cli.specs.Run.{Runs, usage_noted, stop_noted}
@@ -10,7 +11,7 @@ use Rattle.gfx_cli.specs.Text.{usage_line}
 use Rattle.gfx_cli.specs.declared.status.Status.TheVariants as status
 use Rattle.gfx_cli.proofs.Deciding.{good_stops, told_at}
 use Rattle.gfx_cli.proofs.Ending.{front_of}
-use Rattle.gfx_cli.proofs.Telling.{bad_told, status_tells}
+use Rattle.gfx_cli.proofs.Telling.{bad_told, status_tells, stop_status}
 use Rattle.gfx_cli.proofs.run.run_files.Goals as goal
 
 pub returns-in_default-clause-noted : goal.returns-in_default-clause-noted
@@ -67,3 +68,11 @@ returns-in-Err-clause-noted g c =
           (λ e. c.in-Err.ensures.read_fault (ap Err e)),
       c.tell.ensures.front,
     )
+
+pub returns-in-Ok-clause-keeps : goal.returns-in-Ok-clause-keeps
+returns-in-Ok-clause-keeps g c done range named = c.in-Ok.ensures.keeps range (sym (c.in-Some.ensures.only (Trim range) named))
+
+pub returns-in-Err-clause-keeps : goal.returns-in-Err-clause-keeps
+returns-in-Err-clause-keeps g c done range named =
+    let told = status_tells c.tell.result (status_of c.in-Err.stop) status.Done _ _ _ c.tell.ensures.ends done (λ e. absurd cc) (λ e. absurd cc) in
+    absurd ((stop_status c.in-Err.stop).0 told.0)
