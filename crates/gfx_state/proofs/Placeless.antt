@@ -1,11 +1,12 @@
 -- Captures that need no places: without memory and without swapchains.
-use Rattle.std.proofs.Common.{◌≡◌, ℕ, zero, suc, ◌==◌, ◌||◌, ◌&&◌, nat_lt, Bool, true, false, List, [], ◌∷◌, Some, None, is_some, cond, refl, ap, sym, subst, ◌∙◌, arith}
+use Rattle.std.proofs.Common.{◌≡◌, ℕ, zero, suc, ◌==◌, ◌||◌, ◌&&◌, nat_lt, Bool, true, false, List, [], ◌∷◌, Option, Some, None, is_some, cond, refl, ap, sym, subst, ◌∙◌, arith}
 use Rattle.std.specs.Prelude.{find}
 use Rattle.std.proofs.Math.Logic.{∥∥₁_elim}
 use Rattle.std.proofs.Props.{props}
 use Rattle.std.proofs.lemmas.Bool.{eqb-true}
 use Rattle.std.proofs.lemmas.Bool.Decides.{nat_tests}
 use Rattle.gfx_types.specs.declared.names.Kind.{Kind}
+use Rattle.gfx_types.specs.declared.op.Place.{Place}
 use Rattle.gfx_types.specs.declared.names.Kind.TheVariants as kind
 use Rattle.gfx_model.specs.Steps.{Detail, Object, kind_of, kind_number}
 use Rattle.gfx_model.specs.Steps.Detail.{a_memory, a_swapchain}
@@ -58,8 +59,8 @@ live_above_zero v none zero o live = absurd (let e : None ≡ Some o = sym none 
 live_above_zero v none (suc x) o live = zero_test x
 
 pub no_places : (t : Tracker) (k : objects.Kept) → SameObjects (objects.answers k) (answers t) → objects.next_of (objects.answers k) kind.Memory 0 ≡ None
-    → objects.next_of (objects.answers k) kind.Swapchain 0 ≡ None → HasPlaces (answers t) (λ at. None)
-no_places t k same memories swapchains x o live = by o.detail refl
+    → objects.next_of (objects.answers k) kind.Swapchain 0 ≡ None → (bytes : Place → Option (List ℕ)) → HasPlaces (answers t) bytes
+no_places t k same memories swapchains bytes x o live = by o.detail refl
   where
     x_above : IsLawful (answers t) [] → (x == 0) ≡ false
     x_above h = live_above_zero (answers t) h.objects.zero x o live
@@ -71,7 +72,7 @@ no_places t k same memories swapchains x o live = by o.detail refl
         let there : is_live (answers t) q x ≡ true = ap (passes (λ o. kind_number (kind_of o.detail) == kind_number q)) live ∙ ap (λ n. n == kind_number q) own ∙ same_number (kind_number q) in
         none_live (answers t) q x (found_same (objects.answers k) (answers t) same q nothing) there (x_above h) (h.ids.exact x ∙ ap is_some live))
 
-    by : (d : Detail) → o.detail ≡ d → HasPlacesOf (answers t) (λ at. None) x d
+    by : (d : Detail) → o.detail ≡ d → HasPlacesOf (answers t) bytes x d
     by (a_memory size) is = absurd (none kind.Memory memories (ap (λ d. kind_number (kind_of d)) is))
     by (a_swapchain surface images format width height usage) is = absurd (none kind.Swapchain swapchains (ap (λ d. kind_number (kind_of d)) is))
     by _ is = tt

@@ -1,5 +1,7 @@
 // Sections of small captures.
-ghost use Rattle.std.specs.Prelude.{◌≡◌, None, Some, IsTrue};
+ghost use Rattle.std.specs.Prelude.{◌≡◌, ℕ, List, None, Some, IsTrue};
+ghost use Rattle.std.specs.declared.option.Option.{Option as Maybe};
+ghost use Rattle.gfx_types.specs.declared.op.Place.{Place as Where};
 ghost use Rattle.gfx_objects.specs.Objects.{next_of, answers as answers_of};
 ghost use Rattle.gfx_tracker.specs.Tracker.{answers};
 ghost use Rattle.gfx_state.specs.Stored.{HasPlaces};
@@ -16,24 +18,34 @@ use std::alloc::Global;
 use std::process::Abort;
 use std::test::Fail;
 
-/// No places.
+/// The same bytes at every place.
 #[derive(Drop)]
-struct Nowhere;
+struct Everywhere {
+    bytes: Bytes,
+}
 
-impl StateBytes for Nowhere {
-    ghost bytes = { λ s at. None };
+impl StateBytes for Everywhere {
+    ghost bytes = { λ s at. Some s.bytes };
 
     fn length(&self, _place: Place) -> Option<u64> {
-        None
+        Some(self.bytes.length())
     }
 
-    fn next_fill(&self, _place: Place, _after: u64) -> Option<Span> {
-        unreachable!()
+    fn next_fill(&self, _place: Place, after: u64) -> Option<Span> {
+        self.bytes.next_fill(after)
     }
 
-    fn read(&self, _place: Place, _at: u64, _into: &mut [u8]) {
-        unreachable!()
+    fn read(&self, _place: Place, at: u64, into: &mut [u8]) {
+        self.bytes.read_into(at, into);
     }
+}
+
+/// No bytes at every place.
+fn nothing(alloc: Global) -> Result<Everywhere, Fail> {
+    let Ok(bytes) = Bytes::new(alloc, 0) else {
+        return Err(Fail::from("no memory"));
+    };
+    Ok(Everywhere { bytes })
 }
 
 /// Whether no object of a kind is live.
@@ -45,7 +57,7 @@ fn has_none(objects: &Objects, kind: Kind) -> bool
 
 /// Whether neither memory nor a swapchain is live.
 fn needs_no_places(tracker: &Tracker) -> bool
-    ensures { IsTrue result → HasPlaces (answers tracker.now) (λ at. None) }
+    ensures { (bytes : Where → Maybe (List ℕ)) → IsTrue result → HasPlaces (answers tracker.now) bytes }
 {
     let objects = tracker.objects();
     has_none(objects, Kind::Memory) && has_none(objects, Kind::Swapchain)
@@ -99,11 +111,9 @@ fn objects_stand_by_kind_and_id_between_the_markers(rt: HostRuntime) -> Result<(
     let alloc = rt.alloc();
     let tracker = two_fences(&rt, alloc)?;
     let mut sink = MemSink::new(alloc, 100, Vec::new(alloc));
+    let bytes = nothing(alloc)?;
     assert!(rt; needs_no_places(&tracker));
-    assert_eq!(rt;
-        write_state(alloc, &tracker, &Nowhere, 7, &mut sink),
-        Ok(())
-    );
+    assert_eq!(rt; write_state(alloc, &tracker, &bytes, 7, &mut sink), Ok(()));
     assert_eq!(rt; sink.into_bytes().as_slice(), SECTION);
     Ok(())
 }
@@ -113,35 +123,14 @@ fn a_failed_write_leaves_a_front_of_the_section(rt: HostRuntime) -> Result<(), F
     let alloc = rt.alloc();
     let tracker = two_fences(&rt, alloc)?;
     let mut sink = MemSink::new(alloc, 100, Vec::from_slice(alloc, &[3])?);
+    let bytes = nothing(alloc)?;
     assert!(rt; needs_no_places(&tracker));
     assert_eq!(rt;
-        write_state(alloc, &tracker, &Nowhere, 7, &mut sink),
+        write_state(alloc, &tracker, &bytes, 7, &mut sink),
         Err(StateFault::SinkFault)
     );
     assert_eq!(rt; sink.into_bytes().as_slice(), &SECTION[..60]);
     Ok(())
-}
-
-/// The same bytes at every place.
-#[derive(Drop)]
-struct Everywhere {
-    bytes: Bytes,
-}
-
-impl StateBytes for Everywhere {
-    ghost bytes = { λ s at. Some s.bytes };
-
-    fn length(&self, _place: Place) -> Option<u64> {
-        Some(self.bytes.length())
-    }
-
-    fn next_fill(&self, _place: Place, after: u64) -> Option<Span> {
-        self.bytes.next_fill(after)
-    }
-
-    fn read(&self, _place: Place, at: u64, into: &mut [u8]) {
-        self.bytes.read_into(at, into);
-    }
 }
 
 /// A memory 6 of a device 2, with five bytes of which those at 2 and 4 aren't 0, and three of which are mapped.
