@@ -21,6 +21,7 @@ use Rattle.gfx_play.specs.Shows.{Answers, lines_in, text_in}
 use Rattle.gfx_trim.specs.declared.fault.TrimFault.{TrimFault}
 use Rattle.gfx_trim.specs.declared.fault.TrimFault.TheVariants as fault
 use Rattle.gfx_trim.specs.Trims as trim
+use Rattle.gfx_trim.specs.Written.{written}
 use Rattle.gfx_cli.specs.declared.counts.Counts.{Counts}
 use Rattle.gfx_cli.specs.declared.stop.Stop.{Stop}
 use Rattle.gfx_cli.specs.declared.stop.Stop.TheVariants.{WantMemory, BadFile, NoSuchFrame, ReadFault, WriteFault}
@@ -112,7 +113,7 @@ lines_first pixels frames before after bytes text = part_of before after (lines_
 text_first : (c : Command) (before after : Option (List ℕ)) (bytes : List ℕ) → Appends before after (text_before c bytes) → AppendsPart before after (text_by c bytes)
 text_first Info before after bytes text = part_of before after [] (info_text bytes) (whole_part before after [] text)
 text_first (Replay pixels frames) before after bytes text = lines_first pixels frames before after bytes text
-text_first (Trim r) before after bytes text = whole_part before after [] text
+text_first (Trim r) before after bytes text = whole_part before after (written r.first r.last bytes) text
 text_first (Make n) before after bytes text = whole_part before after [] text
 text_first Help before after bytes text = part_of before after [] (text_by Help bytes) (whole_part before after [] text)
 text_first Version before after bytes text = part_of before after [] (text_by Version bytes) (whole_part before after [] text)
