@@ -8,8 +8,6 @@ mod notes;
 mod run;
 mod status;
 mod stop;
-#[cfg(test)]
-mod tests;
 
 pub use run::run_files;
 pub use status::Status;
