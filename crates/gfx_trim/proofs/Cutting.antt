@@ -1,5 +1,5 @@
 -- Where blocks are cut, with more blocks behind them.
-use Rattle.std.proofs.Common.{◌≡◌, ℕ, Bool, true, false, cond, ◌||◌, refl, sym, ◌∙◌, ap, List, [], ◌∷◌, ◌++◌}
+use Rattle.std.proofs.Common.{◌≡◌, ℕ, Bool, true, false, cond, ◌||◌, refl, ◌∙◌, ap, List, [], ◌∷◌, ◌++◌}
 use Rattle.gfx_model.specs.Events.{Event}
 use Rattle.gfx_model.specs.Blocks.{Whole, Content}
 use Rattle.gfx_model.specs.Blocks.Content.{skipped, effect}

@@ -1,5 +1,5 @@
 -- A file that is trimmed, block by block.
-use Rattle.std.proofs.Common.{◌≡◌, ◌≤◌, ◌+◌, ◌-◌, ◌==◌, ◌||◌, cond, if◌then◌else◌, ℕ, Bool, true, false, List, [], ◌∷◌, ◌++◌, length, Option, Some, None, Ok, Err, refl, sym, ap, subst, ◌∙◌, arith}
+use Rattle.std.proofs.Common.{◌≡◌, ◌≤◌, ◌+◌, ◌-◌, ◌==◌, ◌||◌, cond, if◌then◌else◌, ℕ, Bool, true, false, List, [], ◌∷◌, ◌++◌, Option, Some, None, Ok, refl, sym, ap, subst, ◌∙◌, arith}
 use Rattle.std.specs.Prelude.{unwrap_or, option_map}
 use Rattle.std.specs.Io.KnownBytes.{Appends}
 use Rattle.std.proofs.lemmas.List.{append-nil}
@@ -26,14 +26,13 @@ use Rattle.gfx_trim_law.proofs.Prefix.{prefix}
 use Rattle.gfx_trim_law.proofs.Cuts.{valid_start}
 use Rattle.gfx_trim_law.proofs.Each.{begun_is_shown}
 use Rattle.gfx_trim_law.proofs.Numbers.{numbered, number_of}
-use Rattle.gfx_tracker.specs.Tracker.{answers}
 use Rattle.gfx_replay.specs.Fed.{frame_by}
 use Rattle.gfx_decode.specs.Stage.{Stage, At}
 use Rattle.gfx_decode.specs.Decoding.{coming, GivesHeader, start_of}
 use Rattle.gfx_decode.specs.Reading.{IsHeader}
 use Rattle.gfx_blocks.specs.declared.header.Header.{Header}
 use Rattle.gfx_decode.specs.Fed.{ComesNext, history_of, IsFed, IsGiven}
-use Rattle.gfx_decode.specs.Meanings.{end_of, frames_in, judged_of}
+use Rattle.gfx_decode.specs.Meanings.{judged_of}
 use Rattle.gfx_decode.proofs.Feeding.{fed_blocks, fed_more, fed_none}
 use Rattle.gfx_decode.proofs.Judging.{judged_end, judged_fault, judged_given, valid_more}
 use Rattle.gfx_decode.proofs.Stopping.{GivesNone, stops_behind_blocks}
@@ -42,10 +41,10 @@ use Rattle.gfx_trim.specs.declared.phase.Phase.{Phase}
 use Rattle.gfx_trim.specs.declared.phase.Phase.TheVariants as phase
 use Rattle.gfx_trim.specs.Cutters.{IsAfter, Ends, GoesOn, number_by, next_frame_of, text_by}
 use Rattle.gfx_trim.specs.Keeps.{Keeps}
-use Rattle.gfx_trim.specs.Numbers.{first_in, first_of, last_in, IsInside, IsOutside}
+use Rattle.gfx_trim.specs.Numbers.{first_in, last_in, IsOutside}
 use Rattle.gfx_trim.specs.Phases.{IsPhase}
 use Rattle.gfx_trim.specs.Trims.{Cutting, history_in, IsBadAt, IsCut, IsDone, IsWithout, trimmed}
-use Rattle.gfx_trim.specs.Written.{has_effect, range_in, valid_from, valid_in, written, written_of}
+use Rattle.gfx_trim.specs.Written.{has_effect, valid_from, valid_in, written, written_of}
 use Rattle.gfx_trim.proofs.Appending.{appends_none, part_of, whole_part}
 use Rattle.gfx_trim.proofs.Cutting.{quiet_reaches}
 use Rattle.gfx_trim.proofs.Growing.{grown, text_some, text_whole}

@@ -1,7 +1,7 @@
 -- What is written, with more blocks read.
 use Rattle.std.proofs.Common.{◌≡◌, ℕ, ◌+◌, ◌==◌, ◌&&◌, ◌||◌, Bool, true, false, cond, not, if◌then◌else◌, refl, sym, ◌∙◌, ap, List, [], ◌∷◌, ◌++◌, append_assoc}
 use Rattle.std.specs.Prelude.{flat_map}
-use Rattle.std.proofs.lemmas.Bool.{or_parts, or_left, or_right}
+use Rattle.std.proofs.lemmas.Bool.{or_parts, or_left}
 use Rattle.std.proofs.lemmas.List.{append-nil}
 use Rattle.std.proofs.lemmas.List.Folds.{list_any-append}
 use Rattle.std.proofs.lemmas.Grind.{flat_map-append}
@@ -12,7 +12,7 @@ use Rattle.gfx_model.specs.Spelling.{encoding, header}
 use Rattle.gfx_model.specs.Section.{section}
 use Rattle.gfx_model.specs.Trimmed.{Cut, cut_before, reaches, has_section, is_first, boundary, has_boundary, history_to, range_from, file_of, trimmed_by}
 use Rattle.gfx_trim.specs.Written.{acts, has_effect, range_in, written_of}
-use Rattle.gfx_trim.proofs.Cutting.{behind, before, or_more, reaches_more, cut_found, cut_ahead, cut_all, cut_one, cut_none, cut_parts, quiet_reaches, reaches_acts, acted_section}
+use Rattle.gfx_trim.proofs.Cutting.{behind, or_more, reaches_more, cut_found, cut_ahead, cut_all, cut_one, cut_none, cut_parts, quiet_reaches, reaches_acts, acted_section}
 
 -- ---- where the frame begins
 

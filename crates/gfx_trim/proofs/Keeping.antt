@@ -1,21 +1,18 @@
 -- The trimmed file keeps the frames of its range.
-use Rattle.std.proofs.Common.{◌≡◌, ◌≤◌, ◌+◌, ◌==◌, ◌||◌, ℕ, Bool, true, false, cond, if◌then◌else◌, List, [], ◌∷◌, ◌++◌, Option, refl, sym, ap, subst, ◌∙◌, arith}
-use Rattle.std.specs.Prelude.{nat_le, filter}
+use Rattle.std.proofs.Common.{◌≡◌, ◌≤◌, ◌+◌, ◌==◌, ◌||◌, ℕ, Bool, true, false, cond, if◌then◌else◌, List, [], ◌∷◌, Option, refl, sym, ap, ◌∙◌, arith}
+use Rattle.std.specs.Prelude.{nat_le}
 use Rattle.std.specs.Io.KnownBytes.{Appends}
 use Rattle.std.proofs.lemmas.Bool.{eqb-true, le-leb, or_left, or_right}
 use Rattle.gfx_types.specs.declared.frame.Frame.{Frame}
-use Rattle.gfx_model.specs.Events.{Event}
 use Rattle.gfx_model.specs.Blocks.{Whole, minor_of}
-use Rattle.gfx_model.specs.Blocks.End.{clean}
 use Rattle.gfx_model.specs.Frames.{frames}
 use Rattle.gfx_model.specs.History.{is_valid}
-use Rattle.gfx_model.specs.Meaning.{MeansUpTo, RangeEnd, frames_to, has_frame}
+use Rattle.gfx_model.specs.Meaning.{RangeEnd, frames_to, has_frame}
 use Rattle.gfx_model.specs.Trimmed.{reaches, boundary, has_boundary, history_to, IsTrimmed, trimmed_by}
 use Rattle.gfx_model.proofs.Lists.{any_append}
 use Rattle.gfx_model.proofs.Cutting.{trimmed_follows}
 use Rattle.gfx_laws.specs.Laws.{frames_after}
 use Rattle.gfx_grammar.specs.BlockLaws.{blocks_are_computed}
-use Rattle.gfx_grammar.specs.Framing.{with_items}
 use Rattle.gfx_grammar.specs.Reads.{AreBytes}
 use Rattle.gfx_grammar.specs.Splitting.{Blocks, blocks_of}
 use Rattle.gfx_trim_law.specs.Law.{HasRange}
@@ -25,7 +22,7 @@ use Rattle.gfx_trim_law.proofs.Keeps.{trimming_keeps_frames}
 use Rattle.gfx_decode.specs.Stage.{Stage}
 use Rattle.gfx_decode.specs.Decoding.{coming}
 use Rattle.gfx_decode.specs.Fed.{history_of, IsFed}
-use Rattle.gfx_decode.specs.Meanings.{end_of, frames_in, judged_of}
+use Rattle.gfx_decode.specs.Meanings.{end_of, frames_in}
 use Rattle.gfx_decode.proofs.Feeding.{fed_blocks}
 use Rattle.gfx_decode.proofs.Judging.{longer}
 use Rattle.gfx_trim.specs.Keeps.{Keeps}

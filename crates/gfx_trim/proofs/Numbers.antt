@@ -1,23 +1,19 @@
 -- Which frames a valid history shows, by their numbers.
-use Rattle.std.proofs.Common.{◌≡◌, ◌≤◌, ◌<◌, ◌⊎◌, inl, inr, ℕ, ◌+◌, ◌==◌, ◌||◌, Bool, true, false, List, [], ◌∷◌, ◌++◌, Option, Some, None, refl, sym, ap, ◌∙◌, arith}
+use Rattle.std.proofs.Common.{◌≡◌, ◌≤◌, ◌<◌, ◌⊎◌, inl, inr, ℕ, ◌==◌, ◌||◌, Bool, true, false, List, [], ◌∷◌, ◌++◌, None, refl, sym, ap, ◌∙◌, arith}
 use Rattle.std.specs.Prelude.{unwrap_or}
-use Rattle.std.specs.List.{list_any}
 use Rattle.std.proofs.lemmas.Bool.{cases_lt, or_left, or_right, eq-eqb, eqb-true}
 use Rattle.std.proofs.lemmas.List.Folds.{list_any-append}
 use Rattle.std.specs.List.{AllByRecursion}
 use Rattle.gfx_types.specs.declared.frame.Frame.{Frame}
 use Rattle.gfx_model.specs.Events.{Event}
 use Rattle.gfx_model.specs.Events.Event.{CreateInstance, BeginSection, EndSection, QueuePresentKHR}
-use Rattle.gfx_model.specs.Blocks.{Whole}
 use Rattle.gfx_model.specs.History.{view, fault, is_valid}
 use Rattle.gfx_model.specs.Frames.{frame_of, frames}
-use Rattle.gfx_model.specs.Meaning.{has_frame, events_onto}
-use Rattle.gfx_model.specs.Trimmed.{has_boundary}
+use Rattle.gfx_model.specs.Meaning.{has_frame}
 use Rattle.gfx_model.proofs.Lists.{all_along}
-use Rattle.gfx_trim_law.proofs.Clock.{quiet_event, present_event, begun, ended, some_after}
+use Rattle.gfx_trim_law.proofs.Clock.{quiet_event, present_event, ended, some_after}
 use Rattle.gfx_trim_law.proofs.Numbers.{numbered, last_parts, late_begin, number_of, IsShownBefore}
-use Rattle.gfx_trim_law.proofs.Boundary.{boundary_there}
-use Rattle.gfx_trim.specs.Numbers.{first_of, first_in, last_in, IsInside, IsOutside}
+use Rattle.gfx_trim.specs.Numbers.{first_of, first_in, IsInside, IsOutside}
 
 -- ---- no number is missing
 

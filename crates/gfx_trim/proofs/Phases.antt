@@ -1,22 +1,20 @@
 -- How far a cut is after one block more.
-use Rattle.std.proofs.Common.{◌≡◌, ℕ, ◌+◌, ◌==◌, ◌&&◌, ◌||◌, Bool, true, false, cond, not, List, [], ◌∷◌, ◌++◌, Option, Some, None, refl, sym, ap, ◌∙◌, arith}
+use Rattle.std.proofs.Common.{◌≡◌, ℕ, ◌==◌, ◌&&◌, ◌||◌, Bool, true, false, cond, not, List, [], ◌∷◌, ◌++◌, None, refl, sym, ap, ◌∙◌}
 use Rattle.std.specs.List.{AllByRecursion}
-use Rattle.std.proofs.lemmas.Bool.{or_parts, or_left, or_right, or_from, and_left, and_right, and_cases, eq-eqb, eqb-true}
+use Rattle.std.proofs.lemmas.Bool.{or_parts, or_from, and_left, and_right}
 use Rattle.gfx_model.specs.Events.{Event}
 use Rattle.gfx_model.specs.Events.Event.{CreateInstance, BeginSection, EndSection, QueuePresentKHR}
 use Rattle.gfx_model.specs.Blocks.{Whole, Content}
 use Rattle.gfx_model.specs.Blocks.Content.{skipped, effect}
-use Rattle.gfx_model.specs.History.{view, fault, is_valid, onto}
-use Rattle.gfx_model.specs.Frames.{frames}
-use Rattle.gfx_model.specs.Meaning.{content_onto, content_fault, events_onto}
-use Rattle.gfx_model.specs.Trimmed.{Cut, cuts_before, begins_section, content_begins, has_section, cut_before, reaches, is_first, boundary, has_boundary, history_to}
-use Rattle.gfx_trim_law.proofs.Clock.{quiet_event, present_event, begun, ended, some_after, end_checks}
+use Rattle.gfx_model.specs.History.{view, fault, is_valid}
+use Rattle.gfx_model.specs.Meaning.{content_onto, events_onto}
+use Rattle.gfx_model.specs.Trimmed.{Cut, cuts_before, content_begins, has_section, cut_before, reaches, is_first, boundary, has_boundary, history_to}
+use Rattle.gfx_trim_law.proofs.Clock.{quiet_event, present_event, ended, some_after}
 use Rattle.gfx_trim_law.proofs.Numbers.{IsNoBegin, late_begin}
 use Rattle.gfx_trim_law.proofs.Cuts.{with_said, events_in, onto_parts}
 use Rattle.gfx_trim_law.proofs.Boundary.{at_boundary}
 use Rattle.gfx_trim.specs.Written.{acts, has_effect}
-use Rattle.gfx_trim.proofs.Cutting.{behind, reaches_more, cut_ahead, cut_one, cut_all, cut_parts, quiet_history, quiet_reaches, acted_section, quiet_section}
-use Rattle.gfx_trim.proofs.Growing.{boundary_on, begun_on}
+use Rattle.gfx_trim.proofs.Cutting.{reaches_more, cut_ahead, cut_parts, quiet_reaches, acted_section, quiet_section}
 
 -- ---- no section is open where a range goes on
 

@@ -1,7 +1,7 @@
 -- How far a cut is after one block more, and what is written of it.
-use Rattle.std.proofs.Common.{◌≡◌, ◌≤◌, ℕ, ◌+◌, ◌==◌, ◌||◌, Bool, true, false, not, List, [], ◌∷◌, ◌++◌, Option, Some, None, refl, sym, ap, subst, ◌∙◌, arith}
+use Rattle.std.proofs.Common.{◌≡◌, ℕ, ◌+◌, ◌==◌, ◌||◌, Bool, true, false, List, [], ◌∷◌, ◌++◌, Some, None, refl, sym, ap, ◌∙◌, arith}
 use Rattle.std.specs.Prelude.{flat_map}
-use Rattle.std.proofs.lemmas.Bool.{or_left, or_right, or_from, eq-eqb, eqb-true}
+use Rattle.std.proofs.lemmas.Bool.{or_left, or_right, or_from}
 use Rattle.std.proofs.lemmas.Bool.Decides.{nat_tests}
 use Rattle.std.proofs.lemmas.List.{append-nil}
 use Rattle.std.proofs.lemmas.List.Folds.{list_any-append}
@@ -10,17 +10,16 @@ use Rattle.gfx_model.specs.Events.{Event}
 use Rattle.gfx_model.specs.Events.Event.{CreateInstance, BeginSection, EndSection, QueuePresentKHR}
 use Rattle.gfx_model.specs.Blocks.{Whole, Content}
 use Rattle.gfx_model.specs.Blocks.Content.{skipped, effect}
-use Rattle.gfx_model.specs.Section.{section}
-use Rattle.gfx_model.specs.History.{view, fault, is_valid}
-use Rattle.gfx_model.specs.Meaning.{content_onto, content_fault, events_onto}
-use Rattle.gfx_model.specs.Trimmed.{Cut, cuts_before, content_begins, has_section, reaches, boundary, has_boundary, history_to, file_of}
+use Rattle.gfx_model.specs.History.{view, fault}
+use Rattle.gfx_model.specs.Meaning.{content_fault, events_onto}
+use Rattle.gfx_model.specs.Trimmed.{Cut, cuts_before, content_begins, reaches, boundary, history_to}
 use Rattle.gfx_trim_law.proofs.Clock.{end_checks}
 use Rattle.gfx_trim.specs.Cutters.{is_number, number_by}
 use Rattle.gfx_trim.specs.Phases.{IsBefore, IsWaiting, IsWriting, Continues}
-use Rattle.gfx_trim.specs.Written.{acts, has_effect, range_in, written_of}
-use Rattle.gfx_trim.proofs.Cutting.{behind, quiet_history, quiet_reaches, reaches_more}
-use Rattle.gfx_trim.proofs.Growing.{begun_acts, begun_on, boundary_on, goes_on, Extends, text_before, text_going, text_waiting}
-use Rattle.gfx_trim.proofs.Phases.{acted_on, before_on, before_rest, begin_before, begin_first, closed_at, history_along, section_on}
+use Rattle.gfx_trim.specs.Written.{acts, has_effect, written_of}
+use Rattle.gfx_trim.proofs.Cutting.{quiet_history, quiet_reaches, reaches_more}
+use Rattle.gfx_trim.proofs.Growing.{begun_acts, begun_on, boundary_on, goes_on, Extends, text_before, text_waiting}
+use Rattle.gfx_trim.proofs.Phases.{acted_on, before_on, before_rest, begin_before, begin_first, history_along, section_on}
 
 -- ---- before the range
 

@@ -1,6 +1,5 @@
 -- What a cutter stands for, and what a block does to it.
 use Rattle.std.specs.Prelude.{◌≡◌, ℕ, ◌+◌, ◌==◌, Bool, true, false, List, [], ◌∷◌, ◌++◌, flat_map, Option, Some, None, option_map, ⊤}
-use Rattle.gfx_types.specs.declared.names.Fault.{Fault}
 use Rattle.gfx_model.specs.Events.{Event}
 use Rattle.gfx_model.specs.Blocks.{Content, Whole}
 use Rattle.gfx_model.specs.Spelling.{encoding, header}

@@ -22,7 +22,10 @@ pub enum TrimFault {
     },
     /// The range isn't in the file, which has the frames from `first_in` to `last_in`, none where `last_in` is below.
     #[error("the file has frames {first_in} to {last_in}")]
-    NoSuchFrame { first_in: u64, last_in: u64 },
+    NoSuchFrame {
+        first_in: u64,
+        last_in: u64,
+    },
     #[error("read fault")]
     ReadFault,
     #[error("write fault")]

@@ -8,7 +8,7 @@ use Rattle.gfx_decode.proofs.Ahead.{none_behind}
 use Rattle.gfx_decode.proofs.Told.{told_bytes, told_if}
 use Rattle.gfx_trim.specs.Faults.{of_decoder}
 use Rattle.gfx_trim.specs.Trims.{Answers, Cutting, KeepsIfDone}
-use Rattle.gfx_trim.proofs.Answering.{Both, header_fails}
+use Rattle.gfx_trim.proofs.Answering.{header_fails}
 use Rattle.gfx_trim.proofs.Files.{start}
 use Rattle.gfx_trim.proofs.trimming.trim.Goals as goal
 
