@@ -23,6 +23,7 @@ WIDTH, HEIGHT = 640, 480
 FRAME = 4 * WIDTH * HEIGHT
 PART = FRAME // 30
 B8G8R8A8_UNORM = 44
+RUNS = 5
 UNDEFINED, TRANSFER_DST_OPTIMAL, PRESENT_SRC_KHR = 0, 7, 1000001002
 
 
@@ -135,8 +136,8 @@ def memory(words, path):
 
 
 def compare(words, path, other, other_path, most):
-    took = min(run(words, path) for _ in range(3))
-    other_took = min(run(other, other_path) for _ in range(3))
+    took = min(run(words, path) for _ in range(RUNS))
+    other_took = min(run(other, other_path) for _ in range(RUNS))
     kilobytes = memory(words, path)
     title = " ".join(words[1:])
     print(
