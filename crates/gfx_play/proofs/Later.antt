@@ -10,20 +10,17 @@ use Rattle.gfx_model.specs.Events.{Event}
 use Rattle.gfx_model.specs.Blocks.{Whole}
 use Rattle.gfx_model.specs.History.{is_valid, view}
 use Rattle.gfx_model.specs.Frames.{frames}
-use Rattle.gfx_model.specs.Meaning.{Judged, events_onto, has_frame}
+use Rattle.gfx_model.specs.Meaning.{has_frame}
 use Rattle.gfx_model.proofs.Lists.{any_append}
 use Rattle.gfx_laws.specs.Laws.{frames_after}
-use Rattle.gfx_laws.proofs.Ranges.{frames_parts}
 use Rattle.gfx_trim_law.proofs.Cuts.{events_in, onto_events}
 use Rattle.gfx_trim_law.proofs.Numbers.{IsShownBefore, numbered, rises, no_begins, number_of}
 use Rattle.gfx_trim_law.proofs.Clock.{some_after}
-use Rattle.gfx_trim_law.proofs.Prefix.{prefix}
 use Rattle.gfx_decode.specs.Stage.{Stage}
-use Rattle.gfx_decode.specs.Decoding.{coming}
 use Rattle.gfx_play.specs.declared.asked.Asked.{Asked}
 use Rattle.gfx_play.specs.declared.asked.Asked.TheVariants as asked
 use Rattle.gfx_play.specs.Asked.{is_asked, is_last, first_of, asked_of, has_last}
-use Rattle.gfx_decode.specs.Meanings.{judged_of, frames_in}
+use Rattle.gfx_decode.specs.Meanings.{frames_in}
 use Rattle.gfx_decode.specs.Fed.{history_of, IsFed}
 use Rattle.gfx_decode.proofs.Judging.{longer}
 

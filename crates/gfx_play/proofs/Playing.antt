@@ -20,7 +20,7 @@ use Rattle.gfx_model.specs.Frames.{frames}
 use Rattle.gfx_model.specs.Meaning.{Judged, content_onto, content_fault}
 use Rattle.gfx_model.specs.Text.{frame_lines, count_line}
 use Rattle.gfx_laws.specs.Laws.{frames_after}
-use Rattle.gfx_grammar.specs.Splitting.{blocks_of, with_item, only_end}
+use Rattle.gfx_grammar.specs.Splitting.{Blocks, blocks_of, only_end}
 use Rattle.gfx_trim_law.proofs.Cuts.{events_in, onto_parts}
 use Rattle.gfx_blocks.specs.declared.header.Header.{Header}
 use Rattle.gfx_decode.specs.Stage.{Stage, At}
@@ -40,7 +40,7 @@ use Rattle.gfx_decode.specs.Fed.{ComesNext, IsFed, history_of}
 use Rattle.gfx_play.specs.Played.{Played}
 use Rattle.gfx_play.specs.Shows.{text_in, IsShown, IsBadAt, IsWithout, IsRange, Leaves}
 use Rattle.gfx_play.proofs.Asking.{asked_more}
-use Rattle.gfx_decode.proofs.Feeding.{fed_more, fed_none, next_comes}
+use Rattle.gfx_decode.proofs.Feeding.{fed_blocks, fed_more, fed_none, next_comes}
 use Rattle.gfx_decode.proofs.Judging.{judged_end, judged_fault, longer}
 use Rattle.gfx_play.proofs.Later.{last_shown}
 use Rattle.gfx_play.proofs.Taking.{frames_none, frames_one}
@@ -312,7 +312,17 @@ played_last (asked.Between a b) pixels all old new was now left rest before midd
         complete = l.last;
         text = whole_text (asked.Between a b) pixels all (frames (history_of fed)) now.count before later after l.asked (counted (asked.Between a b) now (history_of fed) x.stands x.asked) x.text counting;
       },
-      record { fed = p.fed; block = w; stage = new; fits = x.fits; before = p.unseen; there = there },
+      record {
+        head = x.fits.head;
+        header = x.fits.header;
+        fed = p.fed;
+        block = w;
+        later = (coming new rest).items;
+        blocks = ap (λ (b : Blocks). b.items) (fed_blocks fed new all rest x.fits) ∙ append_assoc p.fed (w ∷ []) (coming new rest).items;
+        parts = x.fits.parts;
+        before = p.unseen;
+        there = there;
+      },
     )
 
 -- a front of the number line was written at the clean end

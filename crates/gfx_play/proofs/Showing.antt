@@ -1,16 +1,19 @@
 -- How showing ends, by what the decoder, the screen and the sink answer.
-use Rattle.std.proofs.Common.{◌≡◌, ◌-◌, ℕ, Bool, true, false, List, [], ◌∷◌, ◌++◌, codes, Option, Some, None, Result, Ok, Err, refl, sym, ap, subst, ◌∙◌, arith}
+use Rattle.std.proofs.Common.{◌≡◌, ◌-◌, ℕ, Bool, true, List, [], ◌∷◌, ◌++◌, codes, Option, None, Result, Ok, Err, refl, sym, ap, subst, ◌∙◌, arith}
 use Rattle.std.specs.Prelude.{OnOk, IfErr, unwrap_or}
 use Rattle.std.specs.Io.KnownBytes.{Appends}
 use Rattle.gfx_io.specs.Pieces.{AppendsPart}
+use Rattle.gfx_io.specs.Told.{IfTold}
 use Rattle.gfx_types.specs.declared.names.Fault.{Fault}
-use Rattle.gfx_model.specs.Blocks.{Whole, minor_of}
+use Rattle.gfx_model.specs.Blocks.{Position, Whole, minor_of}
 use Rattle.gfx_model.specs.History.{is_valid}
 use Rattle.gfx_model.specs.Frames.{frames}
-use Rattle.gfx_model.specs.Meaning.{judge, content_fault}
+use Rattle.gfx_model.specs.Meaning.{Judged, judge, content_fault}
 use Rattle.gfx_model.specs.Text.{count_line}
+use Rattle.gfx_grammar.specs.HeaderLaws.{minor_of-append}
+use Rattle.gfx_grammar.specs.Splitting.{Blocks}
 use Rattle.gfx_trim_law.proofs.Cuts.{onto_parts}
-use Rattle.gfx_decode.specs.Stage.{Stage}
+use Rattle.gfx_decode.specs.Stage.{Stage, At}
 use Rattle.gfx_decode.specs.Decoding.{Gives, GivesHeader, IsBlockAt, behind, item_of}
 use Rattle.gfx_decode.specs.declared.decoder.Raw.{Raw}
 use Rattle.gfx_decode.specs.declared.fault.DecodeFault.{DecodeFault}
@@ -23,36 +26,86 @@ use Rattle.gfx_play.specs.declared.asked.Asked.TheVariants as asked
 use Rattle.gfx_play.specs.declared.screen.Screen.{Screen}
 use Rattle.gfx_play.specs.declared.fault.ShowFault.{ShowFault}
 use Rattle.gfx_play.specs.declared.fault.ShowFault.TheVariants as show
-use Rattle.gfx_play.specs.Asked.{asked_of}
+use Rattle.gfx_play.specs.Asked.{asked_of, has_last}
 use Rattle.gfx_play.specs.Faults.{of_decoder, of_printer}
-use Rattle.gfx_decode.specs.Meanings.{judged_of}
+use Rattle.gfx_decode.specs.Meanings.{frames_in, judged_of}
 use Rattle.gfx_play.specs.Screens.{EndsOnly, Refuses, lines_of, lines_by, next_frame_of}
-use Rattle.gfx_decode.specs.Fed.{ComesNext, history_of}
+use Rattle.gfx_decode.specs.Fed.{ComesNext, IsGiven, history_of}
+use Rattle.gfx_decode.specs.Reachable.{IsBehind}
+use Rattle.gfx_decode.specs.Reading.{StopsAt, StopsInHeader}
 use Rattle.gfx_play.specs.Played.{Played}
-use Rattle.gfx_play.specs.Shows.{Answers, IsBadAt, IsRange, IsShown, IsWithout, Leaves, text_in}
+use Rattle.gfx_play.specs.Shows.{Answers, IsBadAt, IsCut, IsRange, IsShown, IsWithout, Leaves, text_in}
 use Rattle.gfx_decode.proofs.Feeding.{block_comes, fed_more}
-use Rattle.gfx_decode.proofs.Judging.{valid_more}
+use Rattle.gfx_decode.proofs.Judging.{judged_given, valid_more}
+use Rattle.gfx_decode.proofs.Stopping.{GivesNone, header_stops, stops_behind_blocks, told_stop}
+use Rattle.gfx_decode.proofs.Told.{told_if, told_through}
 use Rattle.gfx_play.proofs.Playing.{played_bad, played_front, played_rule, bad_so, played_all, played_without, end_front, front_of, lines_then}
+
+-- ---- a read that failed
+
+-- before the header was whole
+cut_header : (a : Asked) (pixels : Bool) (taken : Option (List ℕ)) (all left : List ℕ) → IsGiven [] all left → IsCut a pixels taken taken all left
+unfolding frames lines_of
+cut_header a pixels taken all left g =
+    let judged = judged_given [] all left g refl in
+    let shows : frames_in g.given ≡ [] = ap (λ (j : Judged). frames j.history) judged in
+    record {
+      given = g.given;
+      parts = g.parts;
+      lawful = ap (λ (j : Judged). j.end) judged ∙ sym (ap (λ (b : Blocks). b.end) g.blocks);
+      unseen = ap (has_last a) shows;
+      text = subst (λ fs. Appends taken taken (lines_of (record { minor = minor_of g.given; pixels = pixels }) (asked_of a fs))) (sym shows) (appends_none taken);
+    }
+
+-- behind some blocks
+cut_behind : (a : Asked) (pixels : Bool) (all : List ℕ) (stage : Stage) (screen : Screen) (left rest : List ℕ) (before after : Option (List ℕ)) →
+    Played a pixels all stage screen left before after → GivesNone stage left rest → IsCut a pixels before after all rest
+cut_behind a pixels all stage screen left rest before after p none =
+    let (g, long) = stops_behind_blocks p.fed stage all left rest p.fits none in
+    let judged = judged_given p.fed all rest g (p.stands).replays.stands.valid in
+    let shows : frames_in g.given ≡ frames (history_of p.fed) = ap (λ (j : Judged). frames j.history) judged in
+    let minor : minor_of all ≡ minor_of g.given = ap minor_of g.parts ∙ minor_of-append g.given rest long in
+    record {
+      given = g.given;
+      parts = g.parts;
+      lawful = ap (λ (j : Judged). j.end) judged ∙ sym (ap (λ (b : Blocks). b.end) g.blocks);
+      unseen = ap (has_last a) shows ∙ p.unseen;
+      text = subst (λ m. Appends before after (lines_of (record { minor = m; pixels = pixels }) (asked_of a (frames_in g.given)))) minor
+          (subst (λ fs. Appends before after (lines_of (record { minor = minor_of all; pixels = pixels }) (asked_of a fs))) (sym shows) p.text);
+    }
 
 -- ---- the header
 
 nothing_written : (taken : Option (List ℕ)) (text : List ℕ) → AppendsPart taken taken text
 nothing_written taken text = (0, omega arith, appends_none taken)
 
-pub header_fails : (a : Asked) (pixels : Bool) (taken : Option (List ℕ)) (why : DecodeFault) (all rest : List ℕ) → GivesHeader (Err why) all rest → Answers a pixels taken taken (Err (of_decoder why)) all rest
+pub header_fails : (a : Asked) (pixels : Bool) (taken : Option (List ℕ)) (why : DecodeFault) (old new : Option (List ℕ)) → IfTold old new (GivesHeader (Err why)) → StopsInHeader old new why →
+    IfTold old new (Answers a pixels taken taken (Err (of_decoder why)))
 unfolding judge frames lines_of
-header_fails a pixels taken (decoder.Bad fault block offset) all rest gives =
-    bad_so a pixels all [] taken taken fault block offset (record { is = ap judged_of gives }) refl (appends_none taken)
-header_fails a pixels taken decoder.ReadFault all rest gives = nothing_written taken (text_in a pixels all)
-header_fails a pixels taken decoder.WantMemory all rest gives = nothing_written taken (text_in a pixels all)
+header_fails a pixels taken (decoder.Bad fault block offset) old new gives stops =
+    told_if old new (GivesHeader (Err (decoder.Bad fault block offset))) (Answers a pixels taken taken (Err (show.Bad fault block offset))) gives
+    (λ all rest gives. bad_so a pixels all [] taken taken fault block offset (record { is = ap judged_of gives }) refl (appends_none taken))
+header_fails a pixels taken decoder.ReadFault old new gives stops =
+    told_if old new (IsGiven []) (Answers a pixels taken taken (Err show.ReadFault)) (header_stops old new (GivesHeader (Err decoder.ReadFault)) gives stops)
+    (λ all rest given. cut_header a pixels taken all rest given)
+header_fails a pixels taken decoder.WantMemory old new gives stops =
+    told_if old new (GivesHeader (Err decoder.WantMemory)) (Answers a pixels taken taken (Err show.WantMemory)) gives (λ all rest gives. nothing_written taken (text_in a pixels all))
 
 -- ---- the next block
 
-pub next_fails : (a : Asked) (pixels : Bool) (all : List ℕ) (stage : Stage) (screen : Screen) (left rest : List ℕ) (before after : Option (List ℕ)) (why : DecodeFault) →
-    Played a pixels all stage screen left before after → Gives stage (Err why) left rest → Answers a pixels before after (Err (of_decoder why)) all rest
-next_fails a pixels all stage screen left rest before after (decoder.Bad fault block offset) p gives = played_bad a pixels all stage screen left before after fault block offset p gives
-next_fails a pixels all stage screen left rest before after decoder.ReadFault p gives = played_front a pixels all stage screen left before after p
-next_fails a pixels all stage screen left rest before after decoder.WantMemory p gives = played_front a pixels all stage screen left before after p
+pub next_fails : (a : Asked) (pixels : Bool) (count : ℕ) (stage : Stage) (screen : Screen) (file old new before after : Option (List ℕ)) (why : DecodeFault) → IsBehind count stage →
+    IfTold file old (λ all left. Played a pixels all stage screen left before after) → IfTold old new (Gives stage (Err why)) →
+    ((minor : ℕ) (at : Position) → stage ≡ At minor at → StopsAt minor at old new why) → IfTold file new (Answers a pixels before after (Err (of_decoder why)))
+next_fails a pixels count stage screen file old new before after (decoder.Bad fault block offset) place played gives stops =
+    told_through file old new (λ all left. Played a pixels all stage screen left before after) (Gives stage (Err (decoder.Bad fault block offset))) (Answers a pixels before after (Err (show.Bad fault block offset))) played gives
+    (λ all left rest p gives. played_bad a pixels all stage screen left before after fault block offset p gives)
+next_fails a pixels count stage screen file old new before after decoder.ReadFault place played gives stops =
+    told_through file old new (λ all left. Played a pixels all stage screen left before after) (GivesNone stage) (Answers a pixels before after (Err show.ReadFault)) played
+    (told_stop count stage old new (Gives stage (Err decoder.ReadFault)) place gives stops)
+    (λ all left rest p none. cut_behind a pixels all stage screen left rest before after p none)
+next_fails a pixels count stage screen file old new before after decoder.WantMemory place played gives stops =
+    told_through file old new (λ all left. Played a pixels all stage screen left before after) (Gives stage (Err decoder.WantMemory)) (Answers a pixels before after (Err show.WantMemory)) played gives
+    (λ all left rest p gives. played_front a pixels all stage screen left before after p)
 
 -- ---- a block that is not taken, or whose frame is not written whole
 

@@ -7,16 +7,16 @@ use Rattle.gfx_model.specs.Blocks.End.{clean, bad}
 use Rattle.gfx_model.specs.History.{view}
 use Rattle.gfx_model.specs.Text.{frames_text}
 use Rattle.sha2.specs.Sha256.{sha256}
+use Rattle.gfx_grammar.specs.Framing.{IsHeader}
 use Rattle.gfx_grammar.specs.Splitting.{blocks_of}
 use Rattle.gfx_types.specs.declared.names.Fault.{Fault}
 use Rattle.gfx_play.specs.declared.asked.Asked.{Asked}
 use Rattle.gfx_play.specs.declared.asked.Asked.TheVariants as asked
 use Rattle.gfx_play.specs.Asked.{first_of, asked_of, has_last}
 use Rattle.gfx_model.specs.Frames.{frames}
-use Rattle.gfx_decode.specs.Stage.{Stage}
 use Rattle.gfx_play.specs.declared.fault.ShowFault.{ShowFault}
 use Rattle.gfx_play.specs.declared.fault.ShowFault.TheVariants as show
-use Rattle.gfx_decode.specs.Fed.{history_of, IsFed}
+use Rattle.gfx_decode.specs.Fed.{file_with, history_of}
 use Rattle.gfx_decode.specs.Meanings.{judged_of, frames_in, end_of}
 use Rattle.gfx_play.specs.Screens.{lines_of}
 
@@ -65,12 +65,23 @@ pub record IsWithout (a : Asked) (pixels : Bool) (before after : Option (List �
   pub last_is : last ≡ last_in bytes
   pub text : Appends before after (lines_in a pixels bytes)
 
--- what is left follows the block that shows the last frame
+-- a read failed before the last frame that is asked for and before any rule fault: the frames of the bytes that were given were shown
+pub record IsCut (a : Asked) (pixels : Bool) (before after : Option (List ℕ)) (bytes left : List ℕ) : Type 0 where
+  pub given : List ℕ
+  pub parts : bytes ≡ given ++ left
+  pub lawful : end_of given ≡ (blocks_of given).end
+  pub unseen : has_last a (frames_in given) ≡ false
+  pub text : Appends before after (lines_in a pixels given)
+
+-- what is left follows the header and the first blocks of the file, up to the one that shows the last frame
 pub record IsBehindLast (a : Asked) (bytes left : List ℕ) : Type 0 where
+  pub head : List ℕ
+  pub header : IsHeader head
   pub fed : List Whole
   pub block : Whole
-  pub stage : Stage
-  pub fits : IsFed (fed ++ block ∷ []) stage bytes left
+  pub later : List Whole
+  pub blocks : (blocks_of bytes).items ≡ fed ++ block ∷ later
+  pub parts : bytes ≡ file_with head (fed ++ block ∷ []) left
   pub before : has_last a (frames (history_of fed)) ≡ false
   pub there : has_last a (frames (history_of (fed ++ block ∷ []))) ≡ true
 
@@ -79,11 +90,11 @@ abbrev pub Leaves : Asked → List ℕ → List ℕ → Type 0
 Leaves asked.All bytes left = left ≡ []
 Leaves (asked.Between a b) bytes left = IsBehindLast (asked.Between a b) bytes left
 
--- what was written, by the answer: all, what stands before a bad block, what is there of a range, or a front
+-- what was written, by the answer: all, what stands before a bad block or a failed read, what is there of a range, or a front
 abbrev pub Answers : Asked → Bool → Option (List ℕ) → Option (List ℕ) → Result Unit ShowFault → List ℕ → List ℕ → Type 0
 Answers a pixels before after (Ok done) bytes left = IsShown a pixels before after bytes × Leaves a bytes left
 Answers a pixels before after (Err (show.Bad fault block offset)) bytes left = IsBadAt a pixels before after fault block offset bytes
 Answers a pixels before after (Err (show.NoSuchFrame first last)) bytes left = IsWithout a pixels before after first last bytes
-Answers a pixels before after (Err show.ReadFault) bytes left = AppendsPart before after (text_in a pixels bytes)
+Answers a pixels before after (Err show.ReadFault) bytes left = IsCut a pixels before after bytes left
 Answers a pixels before after (Err show.SinkFault) bytes left = AppendsPart before after (text_in a pixels bytes)
 Answers a pixels before after (Err show.WantMemory) bytes left = AppendsPart before after (text_in a pixels bytes)

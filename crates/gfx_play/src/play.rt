@@ -19,8 +19,8 @@ use gfx_io::{Sink, Source};
 use std::alloc::Global;
 
 /// Shows the frames of a file that are asked for, each once its present is read, and then their number. Reading ends
-/// behind the last of them. A range that is not in the file is told where the file ends, and a bad block where it is met;
-/// the frames before it were shown. The line with their number comes at the good end alone.
+/// behind the last of them. A range that is not in the file is told where the file ends, and a bad block or a failed read
+/// where it is met; the frames before it were shown. The line with their number comes at the good end alone.
 pub fn show_frames<S: Source, K: Sink>(
     alloc: Global,
     asked: Asked,

@@ -35,9 +35,15 @@ struct Shown {
     text: Vec<u8>,
 }
 
-fn show(alloc: Global, input: &[u8], asked: Asked, most: usize) -> Result<Shown, AllocError> {
+fn show(
+    alloc: Global,
+    input: &[u8],
+    asked: Asked,
+    most: usize,
+    failing: &[u64],
+) -> Result<Shown, AllocError> {
     let input = Vec::from_slice(alloc, input)?;
-    let mut source = MemSource::new(input, most, Vec::new(alloc));
+    let mut source = MemSource::new(input, most, Vec::from_slice(alloc, failing)?);
     let mut sink = MemSink::new(alloc, most, Vec::new(alloc));
     let result = show_frames(alloc, asked, true, &mut source, &mut sink);
     Ok(Shown {
@@ -50,7 +56,7 @@ fn show(alloc: Global, input: &[u8], asked: Asked, most: usize) -> Result<Shown,
 fn a_file_is_shown_in_any_cutting(rt: HostRuntime) -> Result<(), Fail> {
     let bytes = hex::decode(rt.alloc(), ONE_FRAME)?;
     for most in [1, 7, 4096] {
-        let shown = show(rt.alloc(), &bytes, Asked::All, most)?;
+        let shown = show(rt.alloc(), &bytes, Asked::All, most, &[])?;
         assert_eq!(rt; shown.result, Ok(()));
         assert_eq!(rt; shown.text.as_slice(), LISTED);
     }
@@ -60,7 +66,13 @@ fn a_file_is_shown_in_any_cutting(rt: HostRuntime) -> Result<(), Fail> {
 #[test]
 fn a_range_ends_behind_its_last_frame(rt: HostRuntime) -> Result<(), Fail> {
     let bytes = hex::decode(rt.alloc(), ONE_FRAME)?;
-    let shown = show(rt.alloc(), &bytes, Asked::Between { first: 1, last: 1 }, 7)?;
+    let shown = show(
+        rt.alloc(),
+        &bytes,
+        Asked::Between { first: 1, last: 1 },
+        7,
+        &[],
+    )?;
     assert_eq!(rt; shown.result, Ok(()));
     assert_eq!(rt; shown.text.as_slice(), LISTED);
     Ok(())
@@ -69,7 +81,13 @@ fn a_range_ends_behind_its_last_frame(rt: HostRuntime) -> Result<(), Fail> {
 #[test]
 fn a_range_that_is_not_there_is_told(rt: HostRuntime) -> Result<(), Fail> {
     let bytes = hex::decode(rt.alloc(), ONE_FRAME)?;
-    let shown = show(rt.alloc(), &bytes, Asked::Between { first: 2, last: 3 }, 7)?;
+    let shown = show(
+        rt.alloc(),
+        &bytes,
+        Asked::Between { first: 2, last: 3 },
+        7,
+        &[],
+    )?;
     assert_eq!(rt;
         shown.result,
         Err(ShowFault::NoSuchFrame { first: 1, last: 1 })
@@ -82,7 +100,7 @@ fn a_range_that_is_not_there_is_told(rt: HostRuntime) -> Result<(), Fail> {
 fn a_cut_file_is_bad_at_its_cut_block(rt: HostRuntime) -> Result<(), Fail> {
     let bytes = hex::decode(rt.alloc(), ONE_FRAME)?;
     let whole = bytes.len().saturating_sub(1);
-    let shown = show(rt.alloc(), &bytes[..whole], Asked::All, 7)?;
+    let shown = show(rt.alloc(), &bytes[..whole], Asked::All, 7, &[])?;
     assert_eq!(rt;
         shown.result,
         Err(ShowFault::Bad {
@@ -92,5 +110,19 @@ fn a_cut_file_is_bad_at_its_cut_block(rt: HostRuntime) -> Result<(), Fail> {
         })
     );
     assert!(rt; shown.text.is_empty());
+    Ok(())
+}
+
+#[test]
+fn a_failed_read_leaves_the_frames_before(rt: HostRuntime) -> Result<(), Fail> {
+    let bytes = hex::decode(rt.alloc(), ONE_FRAME)?;
+    // Each read gives one byte: one fails before the last byte, and one behind it.
+    let whole = bytes.len() as u64;
+    let frame = &LISTED[..LISTED.len() - b"frames 1\n".len()];
+    for (failing, text) in [(whole, &frame[..0]), (whole + 1, frame)] {
+        let shown = show(rt.alloc(), &bytes, Asked::All, 1, &[failing])?;
+        assert_eq!(rt; shown.result, Err(ShowFault::ReadFault));
+        assert_eq!(rt; shown.text.as_slice(), text);
+    }
     Ok(())
 }

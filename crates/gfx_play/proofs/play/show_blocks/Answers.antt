@@ -20,8 +20,8 @@ returns-in_err-raw-clause-told g c a pixels file before start =
     let p = err_from_is_err_and c.from_residual.result c.from_residual.ensures.1 in
     let taken = g.K.Sink.taken c.loop-buffer.sink in
     subst (λ r. IfTold file (g.S.Source.left c.next.new.source) (Answers a pixels before taken r)) (sym (p.1 ∙ ap Err p.2))
-    (told_through file _ _ _ _ (Answers a pixels before taken (Err _)) (c.loop-buffer.invariant.played a pixels file before start) c.in_err-raw.ensures.gives
-    (λ all left rest played gives. next_fails a pixels all c.loop-buffer.decoder c.loop-buffer.screen left rest before taken c.in_err-raw.field-0.0 played gives))
+    (next_fails a pixels c.loop-buffer.screen.count c.loop-buffer.decoder c.loop-buffer.screen file _ _ before taken c.in_err-raw.field-0.0 c.loop-buffer.invariant.place
+    (c.loop-buffer.invariant.played a pixels file before start) c.in_err-raw.ensures.gives c.in_err-raw.ensures.fault)
 
 pub returns-in_err-take_raw-clause-told : goal.returns-in_err-take_raw-clause-told
 returns-in_err-take_raw-clause-told g c a pixels file before start =

@@ -17,8 +17,7 @@ returns-in_err-header-clause-told g c =
     let p = err_from_is_err_and c.from_residual.result c.from_residual.ensures.1 in
     let taken = g.K.Sink.taken c.args.sink.now in
     subst (λ r. IfTold (g.S.Source.left c.args.source.now) (g.S.Source.left c.header.new.source) (Answers c.args.asked c.args.pixels taken taken r)) (sym (p.1 ∙ ap Err p.2))
-    (told_if _ _ (GivesHeader (Err c.in_err-header.field-0.0)) (Answers c.args.asked c.args.pixels taken taken (Err _)) c.in_err-header.ensures.gives
-    (λ all rest gives. header_fails c.args.asked c.args.pixels taken c.in_err-header.field-0.0 all rest gives))
+    (header_fails c.args.asked c.args.pixels taken c.in_err-header.field-0.0 _ _ c.in_err-header.ensures.gives c.in_err-header.ensures.fault)
 
 pub show_blocks-requires-clause-place : goal.show_blocks-requires-clause-place
 show_blocks-requires-clause-place g c =
