@@ -32,7 +32,7 @@ use Rattle.gfx_decode.specs.Decoding.{coming, GivesHeader, start_of}
 use Rattle.gfx_decode.specs.Reading.{IsHeader}
 use Rattle.gfx_blocks.specs.declared.header.Header.{Header}
 use Rattle.gfx_decode.specs.Fed.{ComesNext, history_of, IsFed, IsGiven}
-use Rattle.gfx_decode.specs.Meanings.{judged_of}
+use Rattle.gfx_decode.specs.Meanings.{end_of, judged_of}
 use Rattle.gfx_decode.proofs.Feeding.{fed_blocks, fed_more, fed_none}
 use Rattle.gfx_decode.proofs.Judging.{judged_end, judged_fault, judged_given, valid_more}
 use Rattle.gfx_decode.proofs.Stopping.{GivesNone, stops_behind_blocks}
