@@ -1,5 +1,5 @@
 -- A file that is trimmed, block by block.
-use Rattle.std.proofs.Common.{◌≡◌, ◌≤◌, ◌+◌, ◌-◌, ◌==◌, ◌||◌, cond, if◌then◌else◌, ℕ, Bool, true, false, List, [], ◌∷◌, ◌++◌, Option, Some, None, Ok, refl, sym, ap, subst, ◌∙◌, arith}
+use Rattle.std.proofs.Common.{◌≡◌, ◌≤◌, ◌+◌, ◌-◌, ◌==◌, ◌||◌, cond, if◌then◌else◌, ℕ, Bool, true, false, List, [], ◌∷◌, ◌++◌, Option, Some, None, Ok, refl, sym, ap, subst, ◌∙◌, append_assoc, arith}
 use Rattle.std.specs.Prelude.{unwrap_or, option_map}
 use Rattle.std.specs.Io.KnownBytes.{Appends}
 use Rattle.std.proofs.lemmas.List.{append-nil}
@@ -32,7 +32,7 @@ use Rattle.gfx_decode.specs.Decoding.{coming, GivesHeader, start_of}
 use Rattle.gfx_decode.specs.Reading.{IsHeader}
 use Rattle.gfx_blocks.specs.declared.header.Header.{Header}
 use Rattle.gfx_decode.specs.Fed.{ComesNext, history_of, IsFed, IsGiven}
-use Rattle.gfx_decode.specs.Meanings.{judged_of}
+use Rattle.gfx_decode.specs.Meanings.{end_of, judged_of}
 use Rattle.gfx_decode.proofs.Feeding.{fed_blocks, fed_more, fed_none}
 use Rattle.gfx_decode.proofs.Judging.{judged_end, judged_fault, judged_given, valid_more}
 use Rattle.gfx_decode.proofs.Stopping.{GivesNone, stops_behind_blocks}
@@ -43,7 +43,7 @@ use Rattle.gfx_trim.specs.Cutters.{IsAfter, Ends, GoesOn, number_by, next_frame_
 use Rattle.gfx_trim.specs.Keeps.{Keeps}
 use Rattle.gfx_trim.specs.Numbers.{first_in, last_in, IsOutside}
 use Rattle.gfx_trim.specs.Phases.{IsPhase}
-use Rattle.gfx_trim.specs.Trims.{Cutting, history_in, IsBadAt, IsCut, IsDone, IsWithout, trimmed}
+use Rattle.gfx_trim.specs.Trims.{Cutting, history_in, IsBadAt, IsBehindLast, IsCut, IsDone, IsWithout, trimmed}
 use Rattle.gfx_trim.specs.Written.{has_effect, valid_from, valid_in, written, written_of}
 use Rattle.gfx_trim.proofs.Appending.{appends_none, part_of, whole_part}
 use Rattle.gfx_trim.proofs.Cutting.{quiet_reaches}
@@ -197,6 +197,10 @@ given_text first last m fed all left g valid =
     ∙ ap (λ (ws : List Whole). written_of m first last (valid_from [] ws)) (sym (append-nil fed))
     ∙ ap (written_of m first last) (valid_on fed [] [] valid ∙ ap (λ (ws : List Whole). fed ++ ws) (valid_none (history_of fed)) ∙ append-nil fed)
 
+-- in what was given no block has a rule fault
+lawful_given : (fed : List Whole) (all left : List ℕ) (g : IsGiven fed all left) → is_valid (history_of fed) ≡ true → end_of g.given ≡ (blocks_of g.given).end
+lawful_given fed all left g valid = ap (λ (j : Judged). j.end) (judged_given fed all left g valid) ∙ ap (λ (b : Blocks). b.end) (sym g.blocks)
+
 pub cut_short : (first last : ℕ) (all : List ℕ) (stage : Stage) (c : Cutter) (rest left : List ℕ) (before after : Option (List ℕ)) → first ≤ last →
     Cutting first last all stage c rest before after → GivesNone stage rest left → IsCut first last before after all left
 cut_short first last all stage c rest left before after ordered p none =
@@ -206,6 +210,7 @@ cut_short first last all stage c rest left before after ordered p none =
     record {
       given = g.given;
       parts = g.parts;
+      lawful = lawful_given p.fed all left g r.valid;
       outside = subst (λ (j : Judged). IsOutside first last j.history) (sym (judged_given p.fed all left g r.valid)) r.outside;
       file = subst (Appends before after) (ap (λ m. written_of m first last p.fed) minor ∙ sym (given_text first last (minor_of g.given) p.fed all left g r.valid)) r.text;
     }
@@ -282,6 +287,18 @@ whole_text first last fed w stage all rest e f =
 valid_history : (all : List ℕ) → is_valid (history_in all) ≡ true
 valid_history all = let p = prefix (blocks_of all).items [] (blocks_of all).end refl in ap is_valid p.history ∙ p.valid
 
+behind_last : (last : ℕ) (all : List ℕ) (stage : Stage) (rest : List ℕ) (fed : List Whole) (w : Whole) → IsFed (fed ++ w ∷ []) stage all rest → number_by (history_of fed) w.content ≡ Some last → IsBehindLast last all rest
+behind_last last all stage rest fed w f shows = record {
+  head = f.head;
+  header = f.header;
+  fed = fed;
+  block = w;
+  later = (coming stage rest).items;
+  blocks = ap (λ (b : Blocks). b.items) (fed_blocks (fed ++ w ∷ []) stage all rest f) ∙ append_assoc fed (w ∷ []) (coming stage rest).items;
+  parts = f.parts;
+  shows = shows;
+}
+
 pub cut_done : (first last : ℕ) (all : List ℕ) (old new : Stage) (c : Cutter) (left rest : List ℕ) (before middle after : Option (List ℕ)) (w : Whole) → first ≤ last → (p : Cutting first last all old c left before middle) →
     ComesNext old new w → left ≡ w.bytes ++ rest → Ends c.first c.last p.fed w → Appends before after (text_by c (p.fed ++ w ∷ [])) →
     IsDone first last before after all rest × (AreBytes all → Keeps first last before after all)
@@ -296,7 +313,7 @@ cut_done first last all old new c left rest before middle after w ordered p come
             (file_shows last (p.fed ++ w ∷ []) new all rest h.valid f h.shown);
         file = file;
         all = whole_text first last p.fed w new all rest e f;
-        behind = record { fed = p.fed; block = w; stage = new; fits = f; shows = e.shows };
+        behind = behind_last last all new rest p.fed w f e.shows;
       },
       λ fit. kept first last (p.fed ++ w ∷ []) new all rest before after ordered h f fit file,
     )
@@ -345,6 +362,7 @@ pub header_short : (first last : ℕ) (all left : List ℕ) (taken : Option (Lis
 header_short first last all left taken ordered g = record {
   given = g.given;
   parts = g.parts;
+  lawful = lawful_given [] all left g refl;
   outside = subst (λ (j : Judged). IsOutside first last j.history) (sym (judged_given [] all left g refl)) (none_outside first last ordered);
   file = subst (Appends taken taken) (sym (given_text first last (minor_of g.given) [] all left g refl ∙ text_none (minor_of g.given) first last)) (appends_none taken);
 }

@@ -1,6 +1,6 @@
 -- A block that a cutter takes.
 use Rattle.std.proofs.Common.{◌≡◌, ◌≢◌, ℕ, ◌+◌, ◌==◌, ◌&&◌, ◌||◌, cond, Bool, true, false, List, [], ◌∷◌, ◌++◌, Option, Some, None, Result, Ok, Err, OnOk, refl, sym, ap, subst, ◌∙◌}
-use Rattle.std.specs.Prelude.{flat_map, IfOk, unwrap_or, option_map}
+use Rattle.std.specs.Prelude.{flat_map, IfErr, IfOk, unwrap_or, option_map}
 use Rattle.std.specs.Io.KnownBytes.{Appends}
 use Rattle.std.proofs.lemmas.Bool.{eq-eqb, eqb-true}
 use Rattle.std.proofs.lemmas.List.{append-nil}
@@ -26,9 +26,11 @@ use Rattle.gfx_replay.specs.declared.replayer.Replayer.{Replayer}
 use Rattle.gfx_replay.specs.declared.shown.ShownFrame.{ShownFrame}
 use Rattle.gfx_decode.specs.Fed.{history_of}
 use Rattle.gfx_trim.specs.declared.cutter.Cutter.{Cutter}
+use Rattle.gfx_trim.specs.declared.fault.TrimFault.{TrimFault}
+use Rattle.gfx_trim.specs.declared.fault.TrimFault.TheVariants as trim
 use Rattle.gfx_trim.specs.declared.phase.Phase.{Phase}
 use Rattle.gfx_trim.specs.declared.phase.Phase.TheVariants as phase
-use Rattle.gfx_trim.specs.Cutters.{GoesOn, IsAfter, IsAsFar, IsFed, IsOfSameRange, IsReplayed, IsReplayedAlike, Takes, is_number, number_by, opening, text_by}
+use Rattle.gfx_trim.specs.Cutters.{GoesOn, IsAfter, IsAsFar, IsFed, IsOfSameRange, IsReplayed, IsReplayedAlike, Refuses, Takes, is_number, number_by, opening, text_by}
 use Rattle.gfx_trim.specs.Numbers.{first_of}
 use Rattle.gfx_trim.specs.Phases.{Continues, IsBefore, IsPhase, IsWaiting, IsWriting}
 use Rattle.gfx_trim.specs.Written.{has_effect}
@@ -273,6 +275,14 @@ pub still_ok : {E : Type 0} (r : Result Bool E) (P Q : Type 0) → OnOk r P → 
 still_ok (Ok b) P Q p f = f p
 still_ok (Err e) P Q p f = tt
 
+pub if_err : {T E : Type 0} (r : Result T E) (P Q : E → Type 0) → IfErr r P → ((e : E) → P e → Q e) → IfErr r Q
+if_err (Ok b) P Q p f = tt
+if_err (Err e) P Q p f = f e p
+
 -- a cut that goes on
 pub goes_takes : (t : Bool) (old new : Cutter) (fed : List Whole) (w : Whole) → t ≡ false → GoesOn old new fed w → Takes t old new fed w
 goes_takes t old new fed w is g = subst (λ t. Takes t old new fed w) (sym is) g
+
+-- a skipped block has no rule fault
+pub want_memory : (h : List Event) (w : Whole) (why : TrimFault) → why ≡ trim.WantMemory → w.content ≡ skipped → Refuses h w why
+want_memory h w why is skips = subst (Refuses h w) (sym is) (ap (content_fault h) skips)

@@ -1,5 +1,7 @@
 -- What a cutter stands for, and what a block does to it.
-use Rattle.std.specs.Prelude.{◌≡◌, ℕ, ◌+◌, ◌==◌, Bool, true, false, List, [], ◌∷◌, ◌++◌, flat_map, Option, Some, None, option_map, ⊤}
+use Rattle.std.specs.Prelude.{◌≡◌, ℕ, ◌+◌, ◌==◌, Bool, true, false, List, [], ◌∷◌, ◌++◌, flat_map, Option, Some, None, option_map, Result, IfOk, IfErr, OnOk, ⊤}
+use Rattle.std.specs.Io.KnownBytes.{Appends}
+use Rattle.gfx_io.specs.Pieces.{AppendsPart}
 use Rattle.gfx_model.specs.Events.{Event}
 use Rattle.gfx_model.specs.Blocks.{Content, Whole}
 use Rattle.gfx_model.specs.Spelling.{encoding, header}
@@ -94,6 +96,16 @@ Refuses h w (trim.NoSuchFrame first last) = ⊥
 Refuses h w trim.ReadFault = ⊥
 Refuses h w trim.SinkFault = content_fault h w.content ≡ None
 Refuses h w trim.WantMemory = content_fault h w.content ≡ None
+
+-- what a call that takes a block answers, leaves and writes, whatever blocks were taken before
+pub record TakesBlock (old new : Cutter) (w : Whole) (before after : Option (List ℕ)) (result : Result Bool TrimFault) : Type 0 where
+  -- it answers whether the block was the last of the range
+  pub ok : IfOk result (λ last. (fed : List Whole) → IsAfter old fed → Takes last old new fed w)
+  -- what is to be written of all blocks was written
+  pub text : OnOk result ((fed : List Whole) (start : Option (List ℕ)) → IsAfter old fed → Appends start before (text_by old fed) → Appends start after (text_by old (fed ++ w ∷ [])))
+  -- or a front of it
+  pub front : (fed : List Whole) (start : Option (List ℕ)) → IsAfter old fed → Appends start before (text_by old fed) → AppendsPart start after (text_by old (fed ++ w ∷ []))
+  pub err : IfErr result (λ why. (fed : List Whole) → IsAfter old fed → Refuses (history_of fed) w why)
 
 -- a block has a rule fault, or there was no memory
 abbrev pub IsReplayFault : TrimFault → Type 0

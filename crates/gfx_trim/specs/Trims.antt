@@ -7,10 +7,11 @@ use Rattle.gfx_model.specs.Events.{Event}
 use Rattle.gfx_model.specs.Blocks.{Whole, minor_of}
 use Rattle.gfx_model.specs.Blocks.End.{clean, bad}
 use Rattle.gfx_model.specs.Trimmed.{boundary, trimmed_by}
+use Rattle.gfx_grammar.specs.Framing.{IsHeader}
 use Rattle.gfx_grammar.specs.Reads.{AreBytes}
 use Rattle.gfx_grammar.specs.Splitting.{blocks_of}
 use Rattle.gfx_decode.specs.Stage.{Stage}
-use Rattle.gfx_decode.specs.Fed.{history_of, IsFed}
+use Rattle.gfx_decode.specs.Fed.{file_with, history_of, IsFed}
 use Rattle.gfx_decode.specs.Meanings.{judged_of, end_of}
 use Rattle.gfx_trim.specs.declared.cutter.Cutter.{Cutter}
 use Rattle.gfx_trim.specs.declared.fault.TrimFault.{TrimFault}
@@ -28,12 +29,15 @@ history_in bytes = (judged_of (blocks_of bytes)).history
 abbrev pub trimmed : (first last : ℕ) → List ℕ → List ℕ
 trimmed first last bytes = trimmed_by (minor_of bytes) first last (boundary first (blocks_of bytes).items)
 
--- what is left follows the block that shows frame `last`
+-- what is left follows the header and the first blocks of the file, up to the one that shows frame `last`
 pub record IsBehindLast (last : ℕ) (bytes left : List ℕ) : Type 0 where
+  pub head : List ℕ
+  pub header : IsHeader head
   pub fed : List Whole
   pub block : Whole
-  pub stage : Stage
-  pub fits : IsFed (fed ++ block ∷ []) stage bytes left
+  pub later : List Whole
+  pub blocks : (blocks_of bytes).items ≡ fed ++ block ∷ later
+  pub parts : bytes ≡ file_with head (fed ++ block ∷ []) left
   pub shows : number_by (history_of fed) block.content ≡ Some last
 
 -- the range is in the file, its trimmed file was written, and nothing behind its last frame was read
@@ -59,10 +63,11 @@ pub record IsWithout (first last : ℕ) (before after : Option (List ℕ)) (low 
   pub file : Appends before after (written first last bytes)
   pub read : left ≡ []
 
--- a read failed behind these bytes
+-- a read failed behind these bytes, before any rule fault and before the range was whole
 pub record IsCut (first last : ℕ) (before after : Option (List ℕ)) (bytes left : List ℕ) : Type 0 where
   pub given : List ℕ
   pub parts : bytes ≡ given ++ left
+  pub lawful : end_of given ≡ (blocks_of given).end
   pub outside : IsOutside first last (history_in given)
   pub file : Appends before after (written first last given)
 

@@ -41,7 +41,7 @@ pub(crate) struct Cutter {
 impl Cutter {
     ghost use Rattle.gfx_model.specs.Events.{event_of};
     ghost use Rattle.gfx_model.specs.Blocks.Content.{effect as of_effect};
-    ghost use Rattle.gfx_trim.specs.Cutters.{IsReplayed, IsReplayedAlike, IsFed, IsReplayFault, IsAfter, IsAsFar, IsOfSameRange, GoesOn, Takes, Refuses, opening, text_by, next_frame_of};
+    ghost use Rattle.gfx_trim.specs.Cutters.{IsReplayed, IsReplayedAlike, IsFed, IsReplayFault, IsAfter, IsAsFar, IsOfSameRange, GoesOn, Takes, TakesBlock, Refuses, opening, next_frame_of};
     ghost use Rattle.gfx_trim.specs.Phases.{Continues};
 
     /// A cutter before the first block.
@@ -74,13 +74,8 @@ impl Cutter {
         sink: &mut K,
     ) -> Result<bool, TrimFault>
         requires after { (fed : List Whole) × IsAfter self.old fed }
-        ensures ok { IfOk result (λ last. (fed : List Whole) → IsAfter self.old fed → Takes last self.old self.new fed (item_of raw.entry)) }
-        ensures text { OnOk result ((fed : List Whole) → (before : Maybe (List ℕ)) → IsAfter self.old fed → Appends before (K.taken sink.old) (text_by self.old fed)
-            → Appends before (K.taken sink.new) (text_by self.old (fed ++ item_of raw.entry ∷ []))) }
-        ensures err { IfErr result (λ why. (fed : List Whole) → IsAfter self.old fed → Refuses (history_of fed) (item_of raw.entry) why) }
+        ensures takes { TakesBlock self.old self.new (item_of raw.entry) (K.taken sink.old) (K.taken sink.new) result }
         ensures refused { (fault : FileFault) → (block : ℕ) → (offset : ℕ) → result ≡ Err (TrimFault.Bad fault block offset) → sink.new ≡ sink.old }
-        ensures front { (fed : List Whole) → (before : Maybe (List ℕ)) → IsAfter self.old fed → Appends before (K.taken sink.old) (text_by self.old fed)
-            → AppendsPart before (K.taken sink.new) (text_by self.old (fed ++ item_of raw.entry ∷ [])) }
         ensures later { K.faults sink.old ≤ K.faults sink.new }
         ensures cause { result ≡ Err TrimFault.SinkFault → Rose (K.faults sink.old) (K.faults sink.new) }
     {
@@ -95,13 +90,8 @@ impl Cutter {
         sink: &mut K,
     ) -> Result<bool, TrimFault>
         requires after { (fed : List Whole) × IsAfter self.old fed }
-        ensures ok { IfOk result (λ last. (fed : List Whole) → IsAfter self.old fed → Takes last self.old self.new fed (item_of raw.now)) }
-        ensures text { OnOk result ((fed : List Whole) → (before : Maybe (List ℕ)) → IsAfter self.old fed → Appends before (K.taken sink.old) (text_by self.old fed)
-            → Appends before (K.taken sink.new) (text_by self.old (fed ++ item_of raw.now ∷ []))) }
-        ensures err { IfErr result (λ why. (fed : List Whole) → IsAfter self.old fed → Refuses (history_of fed) (item_of raw.now) why) }
+        ensures takes { TakesBlock self.old self.new (item_of raw.now) (K.taken sink.old) (K.taken sink.new) result }
         ensures refused { (fault : FileFault) → (block : ℕ) → (offset : ℕ) → result ≡ Err (TrimFault.Bad fault block offset) → sink.new ≡ sink.old }
-        ensures front { (fed : List Whole) → (before : Maybe (List ℕ)) → IsAfter self.old fed → Appends before (K.taken sink.old) (text_by self.old fed)
-            → AppendsPart before (K.taken sink.new) (text_by self.old (fed ++ item_of raw.now ∷ [])) }
         ensures later { K.faults sink.old ≤ K.faults sink.new }
         ensures cause { result ≡ Err TrimFault.SinkFault → Rose (K.faults sink.old) (K.faults sink.new) }
     {
@@ -134,13 +124,8 @@ impl Cutter {
     ) -> Result<bool, TrimFault>
         requires phase { self.old.phase ≡ Phase.Waiting }
         requires after { (fed : List Whole) × IsAfter self.old fed }
-        ensures ok { IfOk result (λ last. (fed : List Whole) → IsAfter self.old fed → Takes last self.old self.new fed (item_of raw.now)) }
-        ensures text { OnOk result ((fed : List Whole) → (before : Maybe (List ℕ)) → IsAfter self.old fed → Appends before (K.taken sink.old) (text_by self.old fed)
-            → Appends before (K.taken sink.new) (text_by self.old (fed ++ item_of raw.now ∷ []))) }
-        ensures err { IfErr result (λ why. (fed : List Whole) → IsAfter self.old fed → Refuses (history_of fed) (item_of raw.now) why) }
+        ensures takes { TakesBlock self.old self.new (item_of raw.now) (K.taken sink.old) (K.taken sink.new) result }
         ensures refused { (fault : FileFault) → (block : ℕ) → (offset : ℕ) → result ≡ Err (TrimFault.Bad fault block offset) → sink.new ≡ sink.old }
-        ensures front { (fed : List Whole) → (before : Maybe (List ℕ)) → IsAfter self.old fed → Appends before (K.taken sink.old) (text_by self.old fed)
-            → AppendsPart before (K.taken sink.new) (text_by self.old (fed ++ item_of raw.now ∷ [])) }
         ensures later { K.faults sink.old ≤ K.faults sink.new }
         ensures cause { result ≡ Err TrimFault.SinkFault → Rose (K.faults sink.old) (K.faults sink.new) }
     {

@@ -33,9 +33,9 @@ returns-in_err-take-clause-told g c first last file before ordered start =
     (told_through file _ _ _ _ (Both first last before after (Err _)) (c.loop-buffer.invariant.cutting first last file before ordered start)
     (told_bytes _ _ raw.bytes.now (Gives c.loop-buffer.decoder (Ok (Some raw))) (rw c.in-Some.is at c.in_ok-raw.ensures.gives) (rw c.in-Some.is at c.in_ok-raw.ensures.bytes))
     (λ all left rest cutting came. take_fails first last all c.loop-buffer.decoder c.loop-buffer.cutter left rest before middle after raw c.in_err-take.field-0.0 ordered cutting came.0 (rw c.in-Some.is at c.in_ok-raw.ensures.block) came.1
-    (refused.err cutting.fed cutting.stands)
+    (refused.takes.err cutting.fed cutting.stands)
     (λ fault block offset is. ap (λ s. g.K.Sink.taken s) (refused.refused fault block offset (ap Err is)))
-    (refused.front cutting.fed before cutting.stands cutting.text)))
+    (refused.takes.front cutting.fed before cutting.stands cutting.text)))
 
 pub returns-then-branch-clause-told : goal.returns-then-branch-clause-told
 returns-then-branch-clause-told g c first last file before ordered start =
@@ -47,8 +47,8 @@ returns-then-branch-clause-told g c first last file before ordered start =
     (told_bytes _ _ raw.bytes.now (Gives stage (Ok (Some raw))) (rw c.in-Some.is at c.in_ok-raw.ensures.gives) (rw c.in-Some.is at c.in_ok-raw.ensures.bytes))
     (λ all left rest cutting came.
     take_ends first last all stage c.loop-buffer.cutter left rest before middle after raw ordered cutting (rw c.in-Some.is at c.in_ok-raw.ensures.block) came.1
-    (subst (λ t. Takes t c.loop-buffer.cutter c.take.new.self cutting.fed (item_of raw)) c.if-branch.true (c.in_ok-take.ensures.ok cutting.fed cutting.stands))
-    (c.in_ok-take.ensures.text cutting.fed before cutting.stands cutting.text))
+    (subst (λ t. Takes t c.loop-buffer.cutter c.take.new.self cutting.fed (item_of raw)) c.if-branch.true (c.in_ok-take.ensures.takes.ok cutting.fed cutting.stands))
+    (c.in_ok-take.ensures.takes.text cutting.fed before cutting.stands cutting.text))
 
 pub loop-buffer-preserved : goal.loop-buffer-preserved
 loop-buffer-preserved g c =
@@ -61,7 +61,7 @@ loop-buffer-preserved g c =
     let kept = c.loop-buffer.invariant in
     let goes : c.next.new.self ≡ behind stage raw = subst (λ r. Goes stage r c.next.new.self) (c.in_ok-raw.was ∙ ap Ok c.in-Some.is) c.next.ensures.after in
     let (fed, stands) = kept.stands in
-    let took : GoesOn was now fed (item_of raw) = subst (λ t. Takes t was now fed (item_of raw)) c.if-branch.false (c.in_ok-take.ensures.ok fed stands) in
+    let took : GoesOn was now fed (item_of raw) = subst (λ t. Takes t was now fed (item_of raw)) c.if-branch.false (c.in_ok-take.ensures.takes.ok fed stands) in
     record {
       place = subst (IsBehind 0) (sym goes) (behind_more 0 0 stage raw kept.place (omega arith));
       stands = (fed ++ item_of raw ∷ [], took.after);
@@ -71,8 +71,8 @@ loop-buffer-preserved g c =
           (told_bytes _ _ raw.bytes.now (Gives stage (Ok (Some raw))) (rw c.in-Some.is at c.in_ok-raw.ensures.gives) (rw c.in-Some.is at c.in_ok-raw.ensures.bytes))
           (λ all left rest cutting came.
           cut_more first last all stage (behind stage raw) was now left rest before middle after (item_of raw) cutting (block_comes stage raw (rw c.in-Some.is at c.in_ok-raw.ensures.block)) came.1
-          (subst (λ t. Takes t was now cutting.fed (item_of raw)) c.if-branch.false (c.in_ok-take.ensures.ok cutting.fed cutting.stands))
-          (c.in_ok-take.ensures.text cutting.fed before cutting.stands cutting.text)));
+          (subst (λ t. Takes t was now cutting.fed (item_of raw)) c.if-branch.false (c.in_ok-take.ensures.takes.ok cutting.fed cutting.stands))
+          (c.in_ok-take.ensures.takes.text cutting.fed before cutting.stands cutting.text)));
       later_source = omega (arith, kept.later_source, c.in_ok-raw.ensures.later);
       later_sink = omega (arith, kept.later_sink, c.in_ok-take.ensures.later);
     }
