@@ -1,10 +1,9 @@
 -- Which commands are built, and which words name them.
-use Rattle.std.proofs.Common.{◌≡◌, ◌≢◌, ℕ, List, Option, Some, None, sym, subst, ◌∙◌}
-use Rattle.std.specs.Prelude.{IfSome, IsNone}
+use Rattle.std.proofs.Common.{◌≡◌, ◌≢◌, ℕ, List, subst}
 use Rattle.gfx_words.specs.declared.command.Command.{Command}
 use Rattle.gfx_words.specs.Commands.{words_of, Fits}
 use Rattle.gfx_cli.specs.Commands.{IsBuilt}
-use Rattle.gfx_cli.specs.Words.{IsNamed, IsOnly, IsOutside}
+use Rattle.gfx_cli.specs.Words.{IsOutside}
 
 -- words that are those of a command that isn't built
 pub outside_of : (words : List (List ℕ)) (c : Command) → ¬ IsBuilt c → ((other : Command) → Fits other → words ≡ words_of other → other ≡ c) → IsOutside words

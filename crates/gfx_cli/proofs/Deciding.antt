@@ -1,5 +1,5 @@
 -- Which ends a file allows.
-use Rattle.std.proofs.Common.{◌≡◌, ◌⊎◌, inl, inr, ℕ, List, Option, Some, None, Bool, true, false, refl, sym, ap, ◌∙◌, arith}
+use Rattle.std.proofs.Common.{◌≡◌, ◌⊎◌, inl, inr, ℕ, List, Option, Some, None, true, false, refl, sym, ap, ◌∙◌, arith}
 use Rattle.std.specs.Prelude.{IfSome}
 use Rattle.gfx_io.specs.Told.{IfTold, IsTold}
 use Rattle.gfx_types.specs.declared.names.Fault.{Fault}
@@ -9,12 +9,10 @@ use Rattle.gfx_trim.specs.Numbers.{IsInside, IsOutside}
 use Rattle.gfx_trim.specs.Trims.{history_in}
 use Rattle.gfx_words.specs.declared.command.Command.{Command}
 use Rattle.gfx_words.specs.declared.command.Command.TheVariants.{Info, Replay, Trim, Make, Help, Version}
-use Rattle.gfx_cli.specs.declared.status.Status.{Status}
-use Rattle.gfx_cli.specs.declared.status.Status.TheVariants as status
 use Rattle.gfx_cli.specs.declared.stop.Stop.{Stop}
 use Rattle.gfx_cli.specs.declared.stop.Stop.TheVariants.{WantMemory, BadFile, NoSuchFrame, ReadFault, WriteFault}
 use Rattle.gfx_cli.specs.Commands.{IsBad, IsGood, LacksFrame}
-use Rattle.gfx_cli.specs.Ends.{IsDone, Stops}
+use Rattle.gfx_cli.specs.Ends.{Stops}
 
 -- what holds of the bytes that are told, and of those that are left
 pub told_at : (a b : Option (List ℕ)) (P : List ℕ → Type 0) (Q : List ℕ → List ℕ → Type 0) → IsTold a → IfSome a P → IfTold a b Q

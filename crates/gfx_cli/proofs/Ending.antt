@@ -1,11 +1,10 @@
 -- How a command ends, by what was read and written.
-use Rattle.std.proofs.Common.{◌≡◌, ◌⊎◌, inl, inr, ℕ, ◌≤◌, List, [], ◌++◌, length, Option, Some, None, Result, Ok, Err, Bool, refl, sym, ap, subst, ◌∙◌, append_assoc, arith}
+use Rattle.std.proofs.Common.{◌≡◌, ◌⊎◌, inl, inr, ℕ, List, [], ◌++◌, Option, Some, None, Result, Ok, Err, Bool, refl, sym, ap, subst, ◌∙◌, append_assoc}
 use Rattle.std.specs.Prelude.{decimal, codes, OnOk, IfErr}
 use Rattle.gfx_io.specs.Told.{IfTold}
 use Rattle.std.specs.Io.KnownBytes.{Appends}
 use Rattle.gfx_io.specs.Pieces.{AppendsPart}
-use Rattle.gfx_model.specs.Blocks.{End, minor_of}
-use Rattle.gfx_model.specs.Blocks.End.{clean, bad}
+use Rattle.gfx_model.specs.Blocks.{minor_of}
 use Rattle.gfx_model.specs.Text as model
 use Rattle.gfx_grammar.specs.Splitting.{blocks_of}
 use Rattle.gfx_frames.proofs.Appending.{appends_none, part_of, whole_part}
@@ -26,7 +25,7 @@ use Rattle.gfx_cli.specs.declared.counts.Counts.{Counts}
 use Rattle.gfx_cli.specs.declared.stop.Stop.{Stop}
 use Rattle.gfx_cli.specs.declared.stop.Stop.TheVariants.{WantMemory, BadFile, NoSuchFrame, ReadFault, WriteFault}
 use Rattle.gfx_cli.specs.Commands.{IsGood, Leaves, asked_by, text_by, text_before}
-use Rattle.gfx_cli.specs.Counts.{CountsAll, IsCountOf}
+use Rattle.gfx_cli.specs.Counts.{CountsAll}
 use Rattle.gfx_cli.specs.Ends.{Ends, IsCutOff, IsDone, Stops}
 use Rattle.gfx_cli.specs.Stop.{of_decoder, of_show, of_trim}
 use Rattle.gfx_cli.specs.Text.{at_clean, counts_text, info_text, line_feed}

@@ -1,6 +1,5 @@
 -- What each command asks of a file, and what it writes.
-use Rattle.std.specs.Prelude.{◌≡◌, ℕ, false, List, [], ◌++◌, Option, Some, None, codes, ⊤}
-use Rattle.std.specs.List.{list_any}
+use Rattle.std.specs.Prelude.{◌≡◌, ℕ, false, List, [], Option, Some, None, ⊤}
 use Rattle.gfx_types.specs.declared.names.Fault.{Fault}
 use Rattle.gfx_model.specs.Blocks.{clean, bad}
 use Rattle.gfx_grammar.specs.Splitting.{blocks_of}
