@@ -27,7 +27,7 @@ use Rattle.gfx_cli.specs.declared.stop.Stop.TheVariants.{WantMemory, BadFile, No
 use Rattle.gfx_cli.specs.Commands.{IsGood, Leaves, asked_by, text_by, text_before}
 use Rattle.gfx_cli.specs.Counts.{CountsAll}
 use Rattle.gfx_cli.specs.Ends.{Ends, IsCutOff, IsDone, Stops}
-use Rattle.gfx_cli.specs.Stop.{of_decoder, of_show, of_trim}
+use Rattle.gfx_cli.specs.Stop.{of_decoder, of_show, of_trim, IsUnwritten}
 use Rattle.gfx_cli.specs.Text.{at_clean, counts_text, info_text, line_feed}
 
 -- ---- `info`
@@ -39,7 +39,7 @@ nothing_written taken text = part_of taken taken [] text (whole_part taken taken
 pub info_fails : (taken : Option (List ℕ)) (why : DecodeFault) (all rest bytes : List ℕ) → CountsAll (Err why) all rest → all ≡ bytes ++ rest
     → Stops Info taken taken (of_decoder why) all rest
 info_fails taken (decoder.Bad fault block offset) all rest bytes end is = (end, appends_none taken)
-info_fails taken decoder.ReadFault all rest bytes end is = record { read = bytes; parts = is; text = appends_none taken }
+info_fails taken decoder.ReadFault all rest bytes end is = record { reads = tt; read = bytes; parts = is; text = appends_none taken }
 info_fails taken decoder.WantMemory all rest bytes end is = nothing_written taken (info_text all)
 
 -- four lines, in the order in which they are written
@@ -71,7 +71,7 @@ pub replay_fails : (why : ShowFault) (pixels : Bool) (frames : Option FrameRange
 replay_fails (show.Bad fault block offset) pixels frames before after all rest is = ((is.end, is.unseen), is.text)
 replay_fails (show.NoSuchFrame first last) pixels frames before after all rest is =
     (record { range = is.range; end = is.end; unseen = is.unseen; first_is = is.first_is; last_is = is.last_is }, is.text)
-replay_fails show.ReadFault pixels frames before after all rest is = record { read = is.given; parts = is.parts; text = is.text }
+replay_fails show.ReadFault pixels frames before after all rest is = record { reads = tt; read = is.given; parts = is.parts; text = is.text }
 replay_fails show.SinkFault pixels frames before after all rest is = is
 replay_fails show.WantMemory pixels frames before after all rest is = is
 
@@ -85,7 +85,7 @@ pub trim_fails : (why : TrimFault) (r : FrameRange) (before after : Option (List
     → trim.Answers r.first r.last before after (Err why) all rest → Stops (Trim r) before after (of_trim why) all rest
 trim_fails (fault.Bad wrong block offset) r before after all rest is = ((is.end, is.outside), is.file)
 trim_fails (fault.NoSuchFrame first last) r before after all rest is = (record { end = is.end; outside = is.outside; first_is = is.low_is; last_is = is.high_is }, is.file)
-trim_fails fault.ReadFault r before after all rest is = record { read = is.given; parts = is.parts; text = is.file }
+trim_fails fault.ReadFault r before after all rest is = record { reads = tt; read = is.given; parts = is.parts; text = is.file }
 trim_fails fault.SinkFault r before after all rest is = is
 trim_fails fault.WantMemory r before after all rest is = is
 
@@ -94,10 +94,14 @@ trim_done r before after all rest is = record { good = is.inside; leaves = is.be
 
 -- ---- a text that needs no file
 
-pub text_ends : (c : Command) (before after : Option (List ℕ)) (r : Result Unit Stop) (text bytes : List ℕ) (cause : Type 0) → IsGood c bytes → Leaves c bytes bytes → text ≡ text_by c bytes
-    → OnOk r (Appends before after text) → AppendsPart before after text → IfErr r (λ why. (why ≡ WriteFault) × cause) → Ends c before after r bytes bytes
-text_ends c before after (Ok done) text bytes cause good leaves is whole part why = record { good = good; leaves = leaves; text = subst (Appends before after) is whole }
-text_ends c before after (Err stop) text bytes cause good leaves is whole part why = subst (λ s. Stops c before after s bytes bytes) (sym why.0) (subst (AppendsPart before after) is part)
+pub text_ends : (c : Command) (before after : Option (List ℕ)) (r : Result Unit Stop) (text bytes : List ℕ) → IsGood c bytes → Leaves c bytes bytes → text ≡ text_by c bytes
+    → OnOk r (Appends before after text) → AppendsPart before after text → IfErr r IsUnwritten → Ends c before after r bytes bytes
+text_ends c before after (Ok done) text bytes good leaves is whole part why = record { good = good; leaves = leaves; text = subst (Appends before after) is whole }
+text_ends c before after (Err (BadFile fault block offset)) text bytes good leaves is whole part why = absurd why
+text_ends c before after (Err (NoSuchFrame first last)) text bytes good leaves is whole part why = absurd why
+text_ends c before after (Err ReadFault) text bytes good leaves is whole part why = absurd why
+text_ends c before after (Err WriteFault) text bytes good leaves is whole part why = subst (AppendsPart before after) is part
+text_ends c before after (Err WantMemory) text bytes good leaves is whole part why = subst (AppendsPart before after) is part
 
 pub told_same : (a : Option (List ℕ)) (P : List ℕ → List ℕ → Type 0) → ((x : List ℕ) → P x x) → IfTold a a P
 told_same None P each = tt
@@ -113,7 +117,7 @@ text_first : (c : Command) (before after : Option (List ℕ)) (bytes : List ℕ)
 text_first Info before after bytes text = part_of before after [] (info_text bytes) (whole_part before after [] text)
 text_first (Replay pixels frames) before after bytes text = lines_first pixels frames before after bytes text
 text_first (Trim r) before after bytes text = whole_part before after (written r.first r.last bytes) text
-text_first (Make n) before after bytes text = whole_part before after [] text
+text_first (Make n) before after bytes text = part_of before after [] (text_by (Make n) bytes) (whole_part before after [] text)
 text_first Help before after bytes text = part_of before after [] (text_by Help bytes) (whole_part before after [] text)
 text_first Version before after bytes text = part_of before after [] (text_by Version bytes) (whole_part before after [] text)
 

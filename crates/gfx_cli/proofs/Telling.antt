@@ -5,7 +5,7 @@ use Rattle.gfx_cli.specs.declared.status.Status.{Status}
 use Rattle.gfx_cli.specs.declared.status.Status.TheVariants as status
 use Rattle.gfx_cli.specs.declared.stop.Stop.{Stop}
 use Rattle.gfx_cli.specs.declared.stop.Stop.TheVariants.{WantMemory, BadFile, NoSuchFrame, ReadFault, WriteFault}
-use Rattle.gfx_cli.specs.Run.{IsBuiltStatus}
+use Rattle.gfx_cli.specs.Run.{IsOfCommands}
 use Rattle.gfx_cli.specs.Stop.{status_of, line_of}
 use Rattle.gfx_cli.specs.Text.{bad_block_line, no_such_frame_line, read_fault_line}
 
@@ -66,7 +66,7 @@ stop_status ReadFault = (λ e. absurd cc, λ e. absurd cc)
 stop_status WriteFault = (λ e. absurd cc, λ e. absurd cc)
 stop_status WantMemory = (λ e. absurd cc, λ e. absurd cc)
 
-pub stop_is_built : (stop : Stop) (result : Status) (line same failed : Type 0) → IsToldBy result (status_of stop) line same failed → IsBuiltStatus result
+pub stop_is_built : (stop : Stop) (result : Status) (line same failed : Type 0) → IsToldBy result (status_of stop) line same failed → IsOfCommands result
 stop_is_built (BadFile fault block offset) result line same failed (inl is) = rw is.0 tt
 stop_is_built (NoSuchFrame first last) result line same failed (inl is) = rw is.0 tt
 stop_is_built ReadFault result line same failed (inl is) = rw is.0 tt

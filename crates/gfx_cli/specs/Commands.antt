@@ -14,16 +14,17 @@ use Rattle.gfx_play.specs.Shows as play
 use Rattle.gfx_trim.specs.Numbers as trim
 use Rattle.gfx_trim.specs.Trims.{history_in, IsBehindLast}
 use Rattle.gfx_trim.specs.Written.{written}
+use Rattle.gfx_trial.specs.Text.{trial_text}
 use Rattle.gfx_cli.specs.Text.{info_text, help_text, version_line}
 
--- the commands that are built
-abbrev pub IsBuilt : Command → Type 0
-IsBuilt Info = ⊤
-IsBuilt (Replay pixels frames) = ⊤
-IsBuilt (Trim r) = ⊤
-IsBuilt (Make n) = ⊥
-IsBuilt Help = ⊤
-IsBuilt Version = ⊤
+-- the command reads a file
+abbrev pub Reads : Command → Type 0
+Reads Info = ⊤
+Reads (Replay pixels frames) = ⊤
+Reads (Trim r) = ⊤
+Reads (Make n) = ⊥
+Reads Help = ⊥
+Reads Version = ⊥
 
 -- the frames that the words ask for
 abbrev pub asked_by : Option FrameRange → Asked
@@ -35,7 +36,7 @@ abbrev pub IsGood : Command → List ℕ → Type 0
 IsGood Info bytes = (blocks_of bytes).end ≡ clean
 IsGood (Replay pixels frames) bytes = play.IsComplete (asked_by frames) bytes
 IsGood (Trim r) bytes = trim.IsInside r.first r.last (history_in bytes)
-IsGood (Make n) bytes = ⊥
+IsGood (Make n) bytes = ⊤
 IsGood Help bytes = ⊤
 IsGood Version bytes = ⊤
 
@@ -77,7 +78,7 @@ abbrev pub text_by : Command → List ℕ → List ℕ
 text_by Info bytes = info_text bytes
 text_by (Replay pixels frames) bytes = play.text_in (asked_by frames) pixels bytes
 text_by (Trim r) bytes = written r.first r.last bytes
-text_by (Make n) bytes = []
+text_by (Make n) bytes = trial_text n
 text_by Help bytes = help_text
 text_by Version bytes = version_line
 
@@ -95,6 +96,6 @@ abbrev pub Leaves : Command → List ℕ → List ℕ → Type 0
 Leaves Info bytes left = left ≡ []
 Leaves (Replay pixels frames) bytes left = play.Leaves (asked_by frames) bytes left
 Leaves (Trim r) bytes left = IsBehindLast r.last bytes left
-Leaves (Make n) bytes left = ⊥
+Leaves (Make n) bytes left = left ≡ bytes
 Leaves Help bytes left = left ≡ bytes
 Leaves Version bytes left = left ≡ bytes

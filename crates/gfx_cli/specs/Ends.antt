@@ -5,7 +5,7 @@ use Rattle.gfx_io.specs.Pieces.{AppendsPart}
 use Rattle.gfx_words.specs.declared.command.Command.{Command}
 use Rattle.gfx_cli.specs.declared.stop.Stop.{Stop}
 use Rattle.gfx_cli.specs.declared.stop.Stop.TheVariants.{WantMemory, BadFile, NoSuchFrame, ReadFault, WriteFault}
-use Rattle.gfx_cli.specs.Commands.{IsGood, IsBad, LacksFrame, Leaves, text_by, text_before}
+use Rattle.gfx_cli.specs.Commands.{IsGood, IsBad, LacksFrame, Leaves, Reads, text_by, text_before}
 
 -- all was written
 pub record IsDone (c : Command) (before after : Option (List ℕ)) (bytes left : List ℕ) : Type 0 where
@@ -15,6 +15,7 @@ pub record IsDone (c : Command) (before after : Option (List ℕ)) (bytes left :
 
 -- what stands before the place where reading stopped was written
 pub record IsCutOff (c : Command) (before after : Option (List ℕ)) (bytes left : List ℕ) : Type 0 where
+  pub reads : Reads c
   pub read : List ℕ
   pub parts : bytes ≡ read ++ left
   pub text : Appends before after (text_before c read)

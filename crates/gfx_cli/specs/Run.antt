@@ -15,26 +15,26 @@ use Rattle.gfx_cli.specs.Stop.{line_of}
 use Rattle.gfx_cli.specs.Text.{usage_line}
 use Rattle.gfx_cli.specs.Words.{IsNamed, IsOutside}
 
--- the statuses of the commands that are built
-abbrev pub IsBuiltStatus : Status → Type 0
-IsBuiltStatus Done = ⊤
-IsBuiltStatus WantMemory = ⊤
-IsBuiltStatus Usage = ⊤
-IsBuiltStatus BadFile = ⊤
-IsBuiltStatus NoSuchFrame = ⊤
-IsBuiltStatus ReadFault = ⊤
-IsBuiltStatus WriteFault = ⊤
-IsBuiltStatus BadScript = ⊥
-IsBuiltStatus CallRefused = ⊥
-IsBuiltStatus LogFull = ⊥
+-- the statuses of these commands
+abbrev pub IsOfCommands : Status → Type 0
+IsOfCommands Done = ⊤
+IsOfCommands WantMemory = ⊤
+IsOfCommands Usage = ⊤
+IsOfCommands BadFile = ⊤
+IsOfCommands NoSuchFrame = ⊤
+IsOfCommands ReadFault = ⊤
+IsOfCommands WriteFault = ⊤
+IsOfCommands BadScript = ⊥
+IsOfCommands CallRefused = ⊥
+IsOfCommands LogFull = ⊥
 
--- the words name a command that is built, and it ended so
+-- the words name a command, and it ended so
 pub record Runs (words : List (List ℕ)) (left_old left_new taken_old taken_new : Option (List ℕ)) (end : Result Unit Stop) : Type 0 where
   pub command : Command
   pub named : IsNamed words command
   pub ends : IfTold left_old left_new (Ends command taken_old taken_new end)
 
--- the words name a command that is built, and the sink took a front of what it writes, or what stands before the place where reading stopped
+-- the words name a command, and the sink took a front of what it writes, or what stands before the place where reading stopped
 pub record WritesFront (words : List (List ℕ)) (left_old left_new taken_old taken_new : Option (List ℕ)) : Type 0 where
   pub command : Command
   pub named : IsNamed words command

@@ -1,11 +1,13 @@
 -- Why a command stops: its status, its line, and where the reason comes from.
-use Rattle.std.specs.Prelude.{ℕ, List, []}
+use Rattle.std.specs.Prelude.{ℕ, List, [], ⊤}
 use Rattle.gfx_decode.specs.declared.fault.DecodeFault.{DecodeFault}
 use Rattle.gfx_decode.specs.declared.fault.DecodeFault.TheVariants as decoder
 use Rattle.gfx_play.specs.declared.fault.ShowFault.{ShowFault}
 use Rattle.gfx_play.specs.declared.fault.ShowFault.TheVariants as show
 use Rattle.gfx_trim.specs.declared.fault.TrimFault.{TrimFault}
 use Rattle.gfx_trim.specs.declared.fault.TrimFault.TheVariants as trim
+use Rattle.gfx_trial.specs.declared.fault.TrialFault.{TrialFault}
+use Rattle.gfx_trial.specs.declared.fault.TrialFault.TheVariants as trial
 use Rattle.gfx_cli.specs.declared.status.Status.{Status}
 use Rattle.gfx_cli.specs.declared.status.Status.TheVariants as status
 use Rattle.gfx_cli.specs.declared.stop.Stop.{Stop}
@@ -33,6 +35,19 @@ of_trim (trim.NoSuchFrame first last) = NoSuchFrame first last
 of_trim trim.ReadFault = ReadFault
 of_trim trim.SinkFault = WriteFault
 of_trim trim.WantMemory = WantMemory
+
+-- a fault of a trial, as a command hands it on
+abbrev pub of_trial : TrialFault → Stop
+of_trial trial.SinkFault = WriteFault
+of_trial trial.WantMemory = WantMemory
+
+-- a write failed, or there was no memory
+abbrev pub IsUnwritten : Stop → Type 0
+IsUnwritten (BadFile fault block offset) = ⊥
+IsUnwritten (NoSuchFrame first last) = ⊥
+IsUnwritten ReadFault = ⊥
+IsUnwritten WriteFault = ⊤
+IsUnwritten WantMemory = ⊤
 
 -- the status with which the program ends
 abbrev pub status_of : Stop → Status

@@ -55,5 +55,5 @@ help_text =
     usage_line
     ++ codes "A capture is read from standard input, and frames A to B are those with these numbers." ++ line_feed
     ++ codes "info describes it, replay writes a line with the digest of each frame, with --pixels its rows too," ++ line_feed
-    ++ codes "and trim writes the capture of these frames alone." ++ line_feed
+    ++ codes "and trim writes the capture of these frames alone. make tries the program on a capture of N frames." ++ line_feed
     ++ codes "--help and --version alone write this text and the version." ++ line_feed

@@ -9,8 +9,10 @@ ghost use Rattle.gfx_words.specs.Commands.{Fits};
 ghost use Rattle.gfx_words.specs.Words.{FitsRange};
 ghost use Rattle.gfx_words.specs.declared.range.FrameRange.{FrameRange as Range};
 ghost use Rattle.gfx_trim.specs.Keeps.{Keeps};
-ghost use Rattle.gfx_cli.specs.Commands.{IsBuilt, asked_by};
+ghost use Rattle.gfx_cli.specs.Commands.{Reads, asked_by};
+ghost use Rattle.gfx_trial.specs.Text.{trial_text};
 ghost use Rattle.gfx_cli.specs.Ends.{Ends};
+ghost use Rattle.gfx_cli.specs.Stop.{IsUnwritten};
 ghost use Rattle.gfx_cli.specs.Words.{IsNamed, IsOutside, IsOnly};
 ghost use Rattle.gfx_words.specs.declared.command.Command.TheVariants.{Replay, Trim};
 
@@ -18,6 +20,7 @@ use crate::Stop;
 use crate::info::write_counts;
 use gfx_io::{Sink, Source, write_whole};
 use gfx_play::{Asked, show_frames};
+use gfx_trial::write_trial;
 use gfx_trim::trim;
 use gfx_words::{Command, FrameRange};
 use std::alloc::Global;
@@ -26,35 +29,19 @@ const HELP: &str =
     "usage: gfxcap info; replay [--pixels] [--frames A-B]; trim A-B; capture [--frames A-B]; make N
 A capture is read from standard input, and frames A to B are those with these numbers.
 info describes it, replay writes a line with the digest of each frame, with --pixels its rows too,
-and trim writes the capture of these frames alone.
+and trim writes the capture of these frames alone. make tries the program on a capture of N frames.
 --help and --version alone write this text and the version.
 ";
 
 const VERSION: &str = "gfxcap 0.1.0\n";
 
-/// The command that the words name, where it is built.
-pub(crate) fn built_command(words: &[String]) -> Option<Command>
+/// The command that the words name.
+pub(crate) fn named_command(words: &[String]) -> Option<Command>
     ensures some { IfSome result (IsNamed (map string_bytes words.now)) }
     ensures only { IfSome result (IsOnly (map string_bytes words.now)) }
     ensures none { IsNone result → IsOutside (map string_bytes words.now) }
 {
-    let command = Command::of(words)?;
-    if is_built(command) {
-        Some(command)
-    } else {
-        None
-    }
-}
-
-/// Whether a command is built.
-fn is_built(command: Command) -> bool
-    ensures yes { result ≡ true → IsBuilt command }
-    ensures no { result ≡ false → ¬ IsBuilt command }
-{
-    match command {
-        Command::Make { .. } => false,
-        _ => true,
-    }
+    Command::of(words)
 }
 
 /// The frames that the words ask for.
@@ -102,28 +89,42 @@ fn cut<S: Source, K: Sink>(
     Ok(())
 }
 
+/// Makes a capture, cuts it, and writes what both show.
+fn make<K: Sink>(alloc: Global, frames: u64, sink: &mut K) -> Result<(), Stop>
+    requires { (3 ≤ frames) × (frames ≤ 1000) }
+    ensures ok { OnOk result (Appends (K.taken sink.old) (K.taken sink.new) (trial_text frames)) }
+    ensures front { AppendsPart (K.taken sink.old) (K.taken sink.new) (trial_text frames) }
+    ensures why { IfErr result IsUnwritten }
+    ensures write_fault { result ≡ Err Stop.WriteFault → Rose (K.faults sink.old) (K.faults sink.new) }
+    ensures later { K.faults sink.old ≤ K.faults sink.new }
+{
+    write_trial(alloc, frames, sink)?;
+    Ok(())
+}
+
 /// Writes a text that needs no file.
 fn write_text<K: Sink>(text: &str, sink: &mut K) -> Result<(), Stop>
     ensures ok { OnOk result (Appends (K.taken sink.old) (K.taken sink.new) text.now) }
     ensures front { AppendsPart (K.taken sink.old) (K.taken sink.new) text.now }
-    ensures cause { IfErr result (λ why. (why ≡ Stop.WriteFault) × Rose (K.faults sink.old) (K.faults sink.new)) }
+    ensures why { IfErr result IsUnwritten }
+    ensures write_fault { result ≡ Err Stop.WriteFault → Rose (K.faults sink.old) (K.faults sink.new) }
     ensures later { K.faults sink.old ≤ K.faults sink.new }
 {
     write_whole(sink, text.as_bytes())?;
     Ok(())
 }
 
-/// Runs a command that is built, up to its end or the first event that stops it.
+/// Runs a command, up to its end or the first event that stops it.
 pub(crate) fn run_command<S: Source, K: Sink>(
     alloc: Global,
     command: Command,
     source: &mut S,
     sink: &mut K,
 ) -> Result<(), Stop>
-    requires built { IsBuilt command }
-    requires fits { Fits command }
+    requires { Fits command }
     ensures ends { IfTold (S.left source.old) (S.left source.new) (Ends command (K.taken sink.old) (K.taken sink.new) result) }
     ensures keeps { (range : Range) → command ≡ Trim range → IfTold (S.left source.old) (S.left source.new) (λ bytes _. AreBytes bytes → OnOk result (Keeps range.first range.last (K.taken sink.old) (K.taken sink.new) bytes)) }
+    ensures unread { ¬ Reads command → source.new ≡ source.old }
     ensures read_fault { result ≡ Err Stop.ReadFault → Rose (S.faults source.old) (S.faults source.new) }
     ensures write_fault { result ≡ Err Stop.WriteFault → Rose (K.faults sink.old) (K.faults sink.new) }
     ensures later { (S.faults source.old ≤ S.faults source.new) × (K.faults sink.old ≤ K.faults sink.new) }
@@ -134,6 +135,6 @@ pub(crate) fn run_command<S: Source, K: Sink>(
         Command::Help => write_text(HELP, sink),
         Command::Version => write_text(VERSION, sink),
         Command::Trim(range) => cut(alloc, range, source, sink),
-        Command::Make { .. } => unreachable!(),
+        Command::Make { frames } => make(alloc, frames, sink),
     }
 }

@@ -11,13 +11,13 @@ ghost use Rattle.gfx_trim.specs.Keeps.{Keeps};
 ghost use Rattle.gfx_types.specs.declared.names.Fault.{Fault as FileFault};
 ghost use Rattle.gfx_words.specs.declared.command.Command.{Command};
 ghost use Rattle.gfx_cli.specs.declared.stop.Stop.TheVariants as stop;
-ghost use Rattle.gfx_cli.specs.Commands.{IsBad, IsGood, LacksFrame};
-ghost use Rattle.gfx_cli.specs.Run.{IsBuiltStatus, IsNote, Runs, WritesFront};
+ghost use Rattle.gfx_cli.specs.Commands.{IsBad, IsGood, LacksFrame, Reads};
+ghost use Rattle.gfx_cli.specs.Run.{IsOfCommands, IsNote, Runs, WritesFront};
 ghost use Rattle.gfx_cli.specs.Text.{bad_block_line, no_such_frame_line, read_fault_line, usage_line};
 ghost use Rattle.gfx_cli.specs.Words.{IsNamed, IsOutside};
 
 use crate::Status;
-use crate::commands::{built_command, run_command};
+use crate::commands::{named_command, run_command};
 use crate::notes::{note, tell};
 use gfx_io::{Sink, Source};
 use std::alloc::Global;
@@ -33,12 +33,15 @@ pub fn run_files<S: Source, K: Sink, N: Sink>(
     sink: &mut K,
     notes: &mut N,
 ) -> Status
-    ensures built { IsBuiltStatus result }
+    ensures statuses { IsOfCommands result }
 
     // Words of no command are answered by the usage line, before anything is read or written.
     ensures usage { result ≡ Status.Usage → IsOutside (map string_bytes words.now) × Appends (N.taken notes.old) (N.taken notes.new) usage_line }
     ensures refused { IsOutside (map string_bytes words.now) → ((result ≡ Status.Usage) ⊎ (result ≡ Status.WriteFault))
         × (source.new ≡ source.old) × (sink.new ≡ sink.old) }
+
+    // A command that reads no file leaves the source alone.
+    ensures unread { (command : Command) → IsNamed (map string_bytes words.now) command → ¬ Reads command → source.new ≡ source.old }
 
     // The file has all that the command asks for, and its text was written.
     ensures done { result ≡ Status.Done → Runs (map string_bytes words.now) (S.left source.old) (S.left source.new) (K.taken sink.old) (K.taken sink.new) (Ok tt)
@@ -83,7 +86,7 @@ pub fn run_files<S: Source, K: Sink, N: Sink>(
         × AppendsPart (N.taken notes.old) (N.taken notes.new) line) }
     ensures no_memory { result ≡ Status.WantMemory → notes.new ≡ notes.old }
 {
-    let Some(command) = built_command(words) else {
+    let Some(command) = named_command(words) else {
         return note(notes, USAGE, Status::Usage);
     };
     match run_command(alloc, command, source, sink) {

@@ -1,11 +1,12 @@
 // Why a command ends before its work is done.
 ghost use Rattle.std.specs.Prelude.{◌≡◌};
 ghost use Rattle.gfx_cli.specs.declared.stop.Stop.TheVariants.{WantMemory as NoMemory, WriteFault as NotWritten};
-ghost use Rattle.gfx_cli.specs.Stop.{of_decoder, of_show, of_trim};
+ghost use Rattle.gfx_cli.specs.Stop.{of_decoder, of_show, of_trial, of_trim};
 
 use gfx_decode::DecodeFault;
 use gfx_io::Failed;
 use gfx_play::ShowFault;
+use gfx_trial::TrialFault;
 use gfx_trim::TrimFault;
 use gfx_types::Fault;
 use std::alloc::AllocError;
@@ -90,6 +91,17 @@ impl From<TrimFault> for Stop {
             TrimFault::ReadFault => Stop::ReadFault,
             TrimFault::SinkFault => Stop::WriteFault,
             TrimFault::WantMemory => Stop::WantMemory,
+        }
+    }
+}
+
+impl From<TrialFault> for Stop {
+    ghost from_gives = { λ fault stop. stop ≡ of_trial fault };
+
+    fn from(fault: TrialFault) -> Self {
+        match fault {
+            TrialFault::SinkFault => Stop::WriteFault,
+            TrialFault::WantMemory => Stop::WantMemory,
         }
     }
 }

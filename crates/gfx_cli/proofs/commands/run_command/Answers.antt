@@ -1,6 +1,7 @@
 use Rattle.std.proofs.Common.{refl, sym, subst}
 use Rattle.gfx_io.specs.Told.{IfTold}
-use Rattle.gfx_words.specs.declared.command.Command.TheVariants.{Help, Version}
+use Rattle.gfx_words.specs.declared.command.Command.TheVariants.{Help, Make, Version}
+use Rattle.gfx_trial.specs.Text.{trial_text}
 use Rattle.gfx_cli.specs.Ends.{Ends}
 use Rattle.gfx_cli.specs.Text.{help_text, version_line}
 use Rattle.gfx_cli.proofs.Ending.{text_ends, told_same}
@@ -13,7 +14,7 @@ returns-in-Help-clause-ends g c =
     let after = g.K.Sink.taken c.write_text.new.sink in
     let at = c.write_text.ensures in
     subst (λ k. IfTold left left (Ends k before after c.write_text.result)) (sym c.in-Help.is)
-    (told_same left (Ends Help before after c.write_text.result) (λ bytes. text_ends Help before after c.write_text.result help_text bytes _ tt refl refl at.ok at.front at.cause))
+    (told_same left (Ends Help before after c.write_text.result) (λ bytes. text_ends Help before after c.write_text.result help_text bytes tt refl refl at.ok at.front at.why))
 
 pub returns-in-Version-clause-ends : goal.returns-in-Version-clause-ends
 returns-in-Version-clause-ends g c =
@@ -22,4 +23,14 @@ returns-in-Version-clause-ends g c =
     let after = g.K.Sink.taken c.write_text-in-Version.new.sink in
     let at = c.write_text-in-Version.ensures in
     subst (λ k. IfTold left left (Ends k before after c.write_text-in-Version.result)) (sym c.in-Version.is)
-    (told_same left (Ends Version before after c.write_text-in-Version.result) (λ bytes. text_ends Version before after c.write_text-in-Version.result version_line bytes _ tt refl refl at.ok at.front at.cause))
+    (told_same left (Ends Version before after c.write_text-in-Version.result) (λ bytes. text_ends Version before after c.write_text-in-Version.result version_line bytes tt refl refl at.ok at.front at.why))
+
+pub returns-in-Make-clause-ends : goal.returns-in-Make-clause-ends
+returns-in-Make-clause-ends g c =
+    let left = g.S.Source.left c.args.source.now in
+    let before = g.K.Sink.taken c.args.sink.now in
+    let after = g.K.Sink.taken c.make.new.sink in
+    let n = c.in-Make.frames in
+    let at = c.make.ensures in
+    subst (λ k. IfTold left left (Ends k before after c.make.result)) (sym c.in-Make.is)
+    (told_same left (Ends (Make n) before after c.make.result) (λ bytes. text_ends (Make n) before after c.make.result (trial_text n) bytes tt refl refl at.ok at.front at.why))
