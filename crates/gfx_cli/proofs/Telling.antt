@@ -1,5 +1,5 @@
 -- What a status tells of the stop behind it.
-use Rattle.std.proofs.Common.{◌≡◌, ◌≢◌, ◌⊎◌, inl, inr, ℕ, List, refl, sym, ◌∙◌}
+use Rattle.std.proofs.Common.{◌≡◌, ◌≢◌, ◌⊎◌, inl, inr, ℕ, List, refl, sym, subst, ◌∙◌}
 use Rattle.gfx_types.specs.declared.names.Fault.{Fault}
 use Rattle.gfx_cli.specs.declared.status.Status.{Status}
 use Rattle.gfx_cli.specs.declared.status.Status.TheVariants as status
@@ -74,3 +74,16 @@ stop_is_built WriteFault result line same failed (inl is) = rw is.0 tt
 stop_is_built WantMemory result line same failed (inl is) = rw is.0 tt
 stop_is_built stop result line same failed (inr (inl is)) = rw is.0 tt
 stop_is_built stop result line same failed (inr (inr is)) = rw is.0 tt
+
+-- a failed write was one of the command, or one of the line
+pub by_cause : (stop : Stop) (result : Status) (line same failed cause : Type 0) → IsToldBy result (status_of stop) line same failed → result ≡ status.WriteFault → (stop ≡ WriteFault → cause) → cause ⊎ failed
+by_cause stop result line same failed cause (inl is) so own = inl (own (write_told stop (sym is.0 ∙ so)))
+by_cause stop result line same failed cause (inr (inl is)) so own = let e : status.WantMemory ≡ status.WriteFault = sym is.0 ∙ so in absurd cc
+by_cause stop result line same failed cause (inr (inr is)) so own = inr is.1
+
+-- where no write failed, a stop is want of memory or one that is told
+pub told_exactly : (Line : List ℕ → Type 0) (stop wanted : Stop) (result : Status) (same failed : Type 0) → IsToldBy result (status_of stop) (Line (line_of stop)) same failed
+    → (stop ≡ WantMemory → result ≡ status.WantMemory) → ¬ failed → (stop ≡ WantMemory) ⊎ (stop ≡ wanted) → (result ≡ status.WantMemory) ⊎ ((result ≡ status_of wanted) × Line (line_of wanted))
+told_exactly Line stop wanted result same failed told silent none (inl want) = inl (silent want)
+told_exactly Line stop wanted result same failed told silent none (inr is) =
+    told_or_wanting result (status_of wanted) (Line (line_of wanted)) same failed (subst (λ s. IsToldBy result (status_of s) (Line (line_of s)) same failed) is told) none

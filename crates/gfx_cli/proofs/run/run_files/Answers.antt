@@ -3,15 +3,16 @@ use Rattle.std.specs.Prelude.{Err, IfSome, map, string_bytes}
 use Rattle.std.specs.Io.KnownBytes.{Appends}
 use Rattle.gfx_decode.proofs.Told.{told_if}
 use Rattle.gfx_words.specs.declared.command.Command.TheVariants.{Trim}
-use Rattle.gfx_cli.specs.Commands.{IsGood}
-use Rattle.gfx_cli.specs.Ends.{Ends, Stops}
+use Rattle.gfx_cli.specs.Commands.{IsBad, IsGood, LacksFrame}
+use Rattle.gfx_cli.specs.Ends.{Ends, IsDone, Stops}
 use Rattle.gfx_cli.specs.Run.{Runs, usage_noted, stop_noted}
 use Rattle.gfx_cli.specs.Stop.{line_of, status_of}
 use Rattle.gfx_cli.specs.Text.{usage_line}
 use Rattle.gfx_cli.specs.declared.status.Status.TheVariants as status
-use Rattle.gfx_cli.proofs.Deciding.{good_stops, told_at}
+use Rattle.gfx_cli.specs.declared.stop.Stop.TheVariants as stop
+use Rattle.gfx_cli.proofs.Deciding.{bad_stops, good_not_bad, good_not_lacking, good_stops, lack_stops, told_at}
 use Rattle.gfx_cli.proofs.Ending.{front_of}
-use Rattle.gfx_cli.proofs.Telling.{bad_told, status_tells, stop_status}
+use Rattle.gfx_cli.proofs.Telling.{bad_told, by_cause, lack_told, read_told, status_tells, stop_is_built, stop_status, told_exactly}
 use Rattle.gfx_cli.proofs.run.run_files.Goals as goal
 
 pub returns-in_default-clause-noted : goal.returns-in_default-clause-noted
@@ -76,3 +77,85 @@ pub returns-in-Err-clause-keeps : goal.returns-in-Err-clause-keeps
 returns-in-Err-clause-keeps g c done range named =
     let told = status_tells c.tell.result (status_of c.in-Err.stop) status.Done _ _ _ c.tell.ensures.ends done (λ e. absurd cc) (λ e. absurd cc) in
     absurd ((stop_status c.in-Err.stop).0 told.0)
+
+pub returns-in-Err-clause-built : goal.returns-in-Err-clause-built
+returns-in-Err-clause-built g c = stop_is_built c.in-Err.stop c.tell.result _ _ _ c.tell.ensures.ends
+
+pub returns-in-Err-clause-usage : goal.returns-in-Err-clause-usage
+returns-in-Err-clause-usage g c is =
+    let told = status_tells c.tell.result (status_of c.in-Err.stop) status.Usage _ _ _ c.tell.ensures.ends is (λ e. absurd cc) (λ e. absurd cc) in
+    absurd ((stop_status c.in-Err.stop).1 told.0)
+
+pub returns-in-Err-clause-done : goal.returns-in-Err-clause-done
+returns-in-Err-clause-done g c is =
+    let told = status_tells c.tell.result (status_of c.in-Err.stop) status.Done _ _ _ c.tell.ensures.ends is (λ e. absurd cc) (λ e. absurd cc) in
+    absurd ((stop_status c.in-Err.stop).0 told.0)
+
+pub returns-in-Err-clause-no_such_frame : goal.returns-in-Err-clause-no_such_frame
+returns-in-Err-clause-no_such_frame g c is =
+    let told = status_tells c.tell.result (status_of c.in-Err.stop) status.NoSuchFrame _ _ _ c.tell.ensures.ends is (λ e. absurd cc) (λ e. absurd cc) in
+    lack_told (λ s. Runs (map string_bytes c.args.words.now) (g.S.Source.left c.args.source.now) (g.S.Source.left c.run_command.new.source) (g.K.Sink.taken c.args.sink.now) (g.K.Sink.taken c.run_command.new.sink) (Err s))
+    (Appends (g.N.Sink.taken c.args.notes.now) (g.N.Sink.taken c.tell.new.notes)) c.in-Err.stop told.0
+    (record { command = c.in-Some.command; named = c.in-Some.ensures.some; ends = c.in-Err.ensures.ends })
+    told.1
+
+pub returns-in-Err-clause-read_fault : goal.returns-in-Err-clause-read_fault
+returns-in-Err-clause-read_fault g c is =
+    let told = status_tells c.tell.result (status_of c.in-Err.stop) status.ReadFault _ _ _ c.tell.ensures.ends is (λ e. absurd cc) (λ e. absurd cc) in
+    let (same, run, line) =
+    read_told (λ s. Runs (map string_bytes c.args.words.now) (g.S.Source.left c.args.source.now) (g.S.Source.left c.run_command.new.source) (g.K.Sink.taken c.args.sink.now) (g.K.Sink.taken c.run_command.new.sink) (Err s))
+    (Appends (g.N.Sink.taken c.args.notes.now) (g.N.Sink.taken c.tell.new.notes)) c.in-Err.stop told.0
+    (record { command = c.in-Some.command; named = c.in-Some.ensures.some; ends = c.in-Err.ensures.ends })
+    told.1 in (
+      c.in-Err.ensures.read_fault (ap Err same),
+      run,
+      line,
+    )
+
+pub returns-in-Err-clause-write_fault : goal.returns-in-Err-clause-write_fault
+returns-in-Err-clause-write_fault g c is =
+    by_cause c.in-Err.stop c.tell.result _ _ _ _ c.tell.ensures.ends is (λ same. c.in-Err.ensures.write_fault (ap Err same))
+
+pub returns-in-Err-clause-bad_exactly : goal.returns-in-Err-clause-bad_exactly
+returns-in-Err-clause-bad_exactly g c other fault block offset named told wrong reads writes notes =
+    let command = c.in-Some.command in
+    let before = g.K.Sink.taken c.args.sink.now in
+    let after = g.K.Sink.taken c.run_command.new.sink in
+    let noted = Appends (g.N.Sink.taken c.args.notes.now) (g.N.Sink.taken c.tell.new.notes) in
+    let same = c.in-Some.ensures.only other named in
+    let (all, rest, found, stops) = told_at _ _ (IsBad command fault block offset) (Stops command before after c.in-Err.stop) told
+    (subst (λ k. IfSome (g.S.Source.left c.args.source.now) (IsBad k fault block offset)) same wrong) c.in-Err.ensures.ends in
+    told_exactly noted c.in-Err.stop (stop.BadFile fault block offset) c.tell.result _ _ c.tell.ensures.ends c.tell.ensures.silent notes
+    (bad_stops command before after c.in-Err.stop fault block offset all rest found stops
+    (λ e. reads (c.in-Err.ensures.read_fault (ap Err e)))
+    (λ e. writes (c.in-Err.ensures.write_fault (ap Err e))))
+
+pub returns-in-Err-clause-lacks_exactly : goal.returns-in-Err-clause-lacks_exactly
+returns-in-Err-clause-lacks_exactly g c other first last named told lacks reads writes notes =
+    let command = c.in-Some.command in
+    let before = g.K.Sink.taken c.args.sink.now in
+    let after = g.K.Sink.taken c.run_command.new.sink in
+    let noted = Appends (g.N.Sink.taken c.args.notes.now) (g.N.Sink.taken c.tell.new.notes) in
+    let same = c.in-Some.ensures.only other named in
+    let (all, rest, found, stops) = told_at _ _ (LacksFrame command first last) (Stops command before after c.in-Err.stop) told
+    (subst (λ k. IfSome (g.S.Source.left c.args.source.now) (LacksFrame k first last)) same lacks) c.in-Err.ensures.ends in
+    told_exactly noted c.in-Err.stop (stop.NoSuchFrame first last) c.tell.result _ _ c.tell.ensures.ends c.tell.ensures.silent notes
+    (lack_stops command before after c.in-Err.stop first last all rest found stops
+    (λ e. reads (c.in-Err.ensures.read_fault (ap Err e)))
+    (λ e. writes (c.in-Err.ensures.write_fault (ap Err e))))
+
+pub returns-in-Ok-clause-bad_exactly : goal.returns-in-Ok-clause-bad_exactly
+returns-in-Ok-clause-bad_exactly g c other fault block offset named told wrong reads writes notes =
+    let command = c.in-Some.command in
+    let same = c.in-Some.ensures.only other named in
+    let (all, rest, found, done) = told_at _ _ (IsBad command fault block offset) (IsDone command (g.K.Sink.taken c.args.sink.now) (g.K.Sink.taken c.run_command.new.sink)) told
+    (subst (λ k. IfSome (g.S.Source.left c.args.source.now) (IsBad k fault block offset)) same wrong) c.in-Ok.ensures.ends in
+    absurd (good_not_bad command fault block offset all done.good found)
+
+pub returns-in-Ok-clause-lacks_exactly : goal.returns-in-Ok-clause-lacks_exactly
+returns-in-Ok-clause-lacks_exactly g c other first last named told lacks reads writes notes =
+    let command = c.in-Some.command in
+    let same = c.in-Some.ensures.only other named in
+    let (all, rest, found, done) = told_at _ _ (LacksFrame command first last) (IsDone command (g.K.Sink.taken c.args.sink.now) (g.K.Sink.taken c.run_command.new.sink)) told
+    (subst (λ k. IfSome (g.S.Source.left c.args.source.now) (LacksFrame k first last)) same lacks) c.in-Ok.ensures.ends in
+    absurd (good_not_lacking command first last all done.good found)
