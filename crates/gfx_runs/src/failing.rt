@@ -90,6 +90,8 @@ fn a_note_that_cannot_be_written_is_a_failed_write(rt: HostRuntime) -> Result<()
     let cut = &file[..1528.min(file.len())];
     for (words, input, text) in [
         (["info", "info"].as_slice(), cut, b"".as_slice()),
+        (["trim", "2"].as_slice(), cut, b"".as_slice()),
+        (["trim", "4-4"].as_slice(), &file, b"".as_slice()),
         (["replay"].as_slice(), cut, &THREE_SHOWN[..170]),
         (
             ["replay", "--frames", "4-4"].as_slice(),

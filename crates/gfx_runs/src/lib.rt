@@ -2,6 +2,10 @@
 #![tactic(auto)]
 
 #[cfg(test)]
+mod carried;
+#[cfg(test)]
+mod cuts;
+#[cfg(test)]
 mod damaged;
 #[cfg(test)]
 mod failing;
@@ -9,6 +13,8 @@ mod failing;
 mod files;
 #[cfg(test)]
 mod info;
+#[cfg(test)]
+mod interrupted;
 #[cfg(test)]
 mod made;
 #[cfg(test)]
@@ -24,8 +30,14 @@ mod ranges;
 #[cfg(test)]
 mod replay;
 #[cfg(test)]
+mod same_pictures;
+#[cfg(test)]
 mod section;
 #[cfg(test)]
 mod streaming;
+#[cfg(test)]
+mod trimmed;
+#[cfg(test)]
+mod variants;
 #[cfg(test)]
 mod words;

@@ -35,6 +35,12 @@ pub(crate) fn words_of(alloc: Global, words: &[&str]) -> Result<Vec<String>, All
     Ok(all)
 }
 
+/// How it ends that this range is cut out of a file, which comes whole, where no call fails.
+pub(crate) fn trim(alloc: Global, range: &str, file: &[u8]) -> Result<Ended, AllocError> {
+    let words = ["trim", range];
+    Outside::of(&words, file).run(alloc)
+}
+
 impl<'a> Outside<'a> {
     /// These words over input that comes whole, where no call fails.
     pub(crate) fn of(words: &'a [&'a str], input: &'a [u8]) -> Self {

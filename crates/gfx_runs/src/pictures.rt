@@ -4,9 +4,21 @@ use crate::files::{one_frame, three_frames};
 use crate::made::{Made, PLAIN, Scene};
 use crate::outside::Outside;
 use gfx_types::BufferRegion;
+use std::alloc::Global;
 use std::test::Fail;
 
 const PIXELS: &[&str] = &["replay", "--pixels"];
+
+/// The captures of this module whose effects are all accepted, up to the end of their recording.
+pub(crate) fn all(alloc: Global) -> Result<[Made; 5], Fail> {
+    Ok([
+        copied(alloc)?,
+        filled(alloc)?,
+        updated(alloc)?,
+        rows(alloc)?,
+        cleared(alloc)?,
+    ])
+}
 
 #[test]
 fn what_is_put_is_what_was_spelled_by_hand(rt: HostRuntime) -> Result<(), Fail> {
@@ -20,15 +32,15 @@ fn what_is_put_is_what_was_spelled_by_hand(rt: HostRuntime) -> Result<(), Fail> 
     Ok(())
 }
 
-#[test]
-fn regions_of_a_copy_are_done_one_after_the_other(rt: HostRuntime) -> Result<(), Fail> {
+/// The front of a buffer goes up in it, and then down again.
+fn copied(alloc: Global) -> Result<Made, Fail> {
     let scene = Scene {
         width: 8,
         usage: 3,
         bytes: b"abcdefgh",
         ..PLAIN
     };
-    let mut made = Made::of(rt.alloc(), scene)?;
+    let mut made = Made::of(alloc, scene)?;
     let up = BufferRegion {
         from: 0,
         to: 2,
@@ -41,6 +53,12 @@ fn regions_of_a_copy_are_done_one_after_the_other(rt: HostRuntime) -> Result<(),
     };
     made.copy_twice(up, down)?;
     made.copy_to_image(8, 1)?;
+    Ok(made)
+}
+
+#[test]
+fn regions_of_a_copy_are_done_one_after_the_other(rt: HostRuntime) -> Result<(), Fail> {
+    let mut made = copied(rt.alloc())?;
     made.show()?;
     let text =
         b"frame 1 8x1 R8_UINT 7ea7ee66da57f1206d1200159f2d45455ca8f0b45881b6292839a1a6fd20ceef
@@ -50,25 +68,26 @@ frames 1
     Outside::of(PIXELS, made.bytes()).ends(&rt, 0, text, b"")
 }
 
-#[test]
-fn a_fill_begins_with_the_lowest_byte_and_ends_at_a_multiple_of_4(
-    rt: HostRuntime,
-) -> Result<(), Fail> {
+/// A buffer of 10 bytes is filled.
+fn filled(alloc: Global) -> Result<Made, Fail> {
     let scene = Scene {
         width: 10,
         buffer: 10,
         usage: 3,
+        bytes: b"\0\0\0",
         ..PLAIN
     };
-    let mut made = Made::of(
-        rt.alloc(),
-        Scene {
-            bytes: b"\0\0\0",
-            ..scene
-        },
-    )?;
+    let mut made = Made::of(alloc, scene)?;
     made.fill(0x0102_0304)?;
     made.copy_to_image(10, 1)?;
+    Ok(made)
+}
+
+#[test]
+fn a_fill_begins_with_the_lowest_byte_and_ends_at_a_multiple_of_4(
+    rt: HostRuntime,
+) -> Result<(), Fail> {
+    let mut made = filled(rt.alloc())?;
     made.show()?;
     let text =
         b"frame 1 10x1 R8_UINT 3e2507b6994f877b2c764a45a541d5a898c4a55f1368d57667355e36c6f5740a
@@ -78,17 +97,25 @@ frames 1
     Outside::of(PIXELS, made.bytes()).ends(&rt, 0, text, b"")
 }
 
-#[test]
-fn an_update_has_at_most_65536_bytes(rt: HostRuntime) -> Result<(), Fail> {
-    let scene = Scene {
-        memory: 131_072,
-        buffer: 131_072,
-        usage: 3,
-        ..PLAIN
-    };
-    let mut made = Made::of(rt.alloc(), scene)?;
+/// A scene whose buffer has 131,072 bytes.
+const LARGE: Scene<'static> = Scene {
+    memory: 131_072,
+    buffer: 131_072,
+    usage: 3,
+    ..PLAIN
+};
+
+/// The first half of a large buffer is updated.
+fn updated(alloc: Global) -> Result<Made, Fail> {
+    let mut made = Made::of(alloc, LARGE)?;
     made.update(&[b'z'; 65_536])?;
     made.copy_to_image(3, 1)?;
+    Ok(made)
+}
+
+#[test]
+fn an_update_has_at_most_65536_bytes(rt: HostRuntime) -> Result<(), Fail> {
+    let mut made = updated(rt.alloc())?;
     made.show()?;
     let text =
         b"frame 1 3x1 R8_UINT 17f165d5a5ba695f27c023a83aa2b3463e23810e360b7517127e90161eebabda
@@ -97,14 +124,14 @@ frames 1
 ";
     Outside::of(PIXELS, made.bytes()).ends(&rt, 0, text, b"")?;
 
-    let mut made = Made::of(rt.alloc(), scene)?;
+    let mut made = Made::of(rt.alloc(), LARGE)?;
     made.update(&[b'z'; 65_540])?;
     let line = b"bad block 17 at 783: 15 BadValue\n";
     Outside::replay(made.bytes()).ends(&rt, 3, b"", line)
 }
 
-#[test]
-fn rows_of_four_bytes_a_texel_are_written_one_below_the_other(rt: HostRuntime) -> Result<(), Fail> {
+/// An image of two rows and four bytes a texel.
+fn rows(alloc: Global) -> Result<Made, Fail> {
     let scene = Scene {
         format: 44,
         width: 7,
@@ -113,8 +140,14 @@ fn rows_of_four_bytes_a_texel_are_written_one_below_the_other(rt: HostRuntime) -
         bytes: b"abcdbcdecdefdefgefghfghighijhijkijkljklmklmnlmnomnopnopq",
         ..PLAIN
     };
-    let mut made = Made::of(rt.alloc(), scene)?;
+    let mut made = Made::of(alloc, scene)?;
     made.copy_to_image(7, 2)?;
+    Ok(made)
+}
+
+#[test]
+fn rows_of_four_bytes_a_texel_are_written_one_below_the_other(rt: HostRuntime) -> Result<(), Fail> {
+    let mut made = rows(rt.alloc())?;
     made.show()?;
     let text =
         b"frame 1 7x2 B8G8R8A8_UNORM 248d6a61d20638b8e5c026930c3e6039a33ce45964ff2167f6ecedd419db06c1
@@ -125,10 +158,16 @@ frames 1
     Outside::of(PIXELS, made.bytes()).ends(&rt, 0, text, b"")
 }
 
+/// An image of one texel is cleared.
+fn cleared(alloc: Global) -> Result<Made, Fail> {
+    let mut made = Made::of(alloc, Scene { width: 1, ..PLAIN })?;
+    made.clear(256)?;
+    Ok(made)
+}
+
 #[test]
 fn a_clear_stores_the_low_bits_of_a_component(rt: HostRuntime) -> Result<(), Fail> {
-    let mut made = Made::of(rt.alloc(), Scene { width: 1, ..PLAIN })?;
-    made.clear(256)?;
+    let mut made = cleared(rt.alloc())?;
     made.show()?;
     let text =
         b"frame 1 1x1 R8_UINT 6e340b9cffb37a989ca544e6bb780a2c78901d3fb33738768511a30617afa01d

@@ -1,7 +1,8 @@
-//! A frame is written before what stands behind it is read.
+//! A frame is written, or its blocks are, before what stands behind it is read.
 ghost use Rattle.std.specs.Prelude.{None};
 
-use crate::files::{ENDS, THREE_SHOWN, three_frames};
+use crate::cuts::first_cut;
+use crate::files::{ENDS, NEXT_FRAME, THREE_SHOWN, three_frames};
 use crate::outside::{Ended, words_of};
 use gfx_cli::run_files;
 use gfx_io::{Failed, MemSink, Sink, Source};
@@ -56,8 +57,8 @@ impl<'a> Sink for Counted<'a> {
     }
 }
 
-/// Replays the file of three frames where so many bytes are wanted.
-fn replay_held(alloc: Global, wanted: u64) -> Result<Ended, Fail> {
+/// Runs these words over the file of three frames where so many bytes are wanted.
+fn run_held(alloc: Global, words: &[&str], wanted: u64) -> Result<Ended, Fail> {
     let written = AtomicU64::new(0);
     let mut source = Held {
         file: three_frames(alloc)?,
@@ -71,7 +72,7 @@ fn replay_held(alloc: Global, wanted: u64) -> Result<Ended, Fail> {
         written: &written,
     };
     let mut notes = MemSink::new(alloc, 4096, Vec::new(alloc));
-    let words = words_of(alloc, &["replay"])?;
+    let words = words_of(alloc, words)?;
     let status = run_files(alloc, &words, &mut source, &mut sink, &mut notes);
     Ok(Ended {
         status: status.code(),
@@ -83,7 +84,7 @@ fn replay_held(alloc: Global, wanted: u64) -> Result<Ended, Fail> {
 
 #[test]
 fn a_frame_is_written_before_more_is_read(rt: HostRuntime) -> Result<(), Fail> {
-    let ended = replay_held(rt.alloc(), 85)?;
+    let ended = run_held(rt.alloc(), &["replay"], 85)?;
     assert_eq!(rt; ended.status, 0);
     assert_eq!(rt; ended.text.as_slice(), THREE_SHOWN);
     assert!(rt; ended.notes.is_empty());
@@ -93,9 +94,30 @@ fn a_frame_is_written_before_more_is_read(rt: HostRuntime) -> Result<(), Fail> {
 
 #[test]
 fn no_frame_is_written_before_its_present_is_read(rt: HostRuntime) -> Result<(), Fail> {
-    let ended = replay_held(rt.alloc(), 86)?;
+    let ended = run_held(rt.alloc(), &["replay"], 86)?;
     assert_eq!(rt; ended.status, 5);
     assert_eq!(rt; ended.text.as_slice(), &THREE_SHOWN[..85]);
+    assert_eq!(rt; ended.notes.as_slice(), b"read fault\n".as_slice());
+    assert!(rt; ended.left > 0);
+    Ok(())
+}
+
+#[test]
+fn the_blocks_of_a_range_are_written_before_more_is_read(rt: HostRuntime) -> Result<(), Fail> {
+    let ended = run_held(rt.alloc(), &["trim", "1-3"], 1179)?;
+    let cut = first_cut(rt.alloc(), &[&NEXT_FRAME, &NEXT_FRAME])?;
+    assert_eq!(rt; ended.status, 0);
+    assert_eq!(rt; ended.text, cut);
+    assert!(rt; ended.notes.is_empty());
+    assert_eq!(rt; ended.left, 0);
+    Ok(())
+}
+
+#[test]
+fn no_block_is_written_before_it_is_read(rt: HostRuntime) -> Result<(), Fail> {
+    let ended = run_held(rt.alloc(), &["trim", "1-3"], 1180)?;
+    assert_eq!(rt; ended.status, 5);
+    assert_eq!(rt; ended.text, first_cut(rt.alloc(), &[])?);
     assert_eq!(rt; ended.notes.as_slice(), b"read fault\n".as_slice());
     assert!(rt; ended.left > 0);
     Ok(())

@@ -9,7 +9,8 @@ const USAGE: &[u8] =
 const HELP: &[u8] =
     b"usage: gfxcap info; replay [--pixels] [--frames A-B]; trim A-B; capture [--frames A-B]; make N
 A capture is read from standard input, and frames A to B are those with these numbers.
-info describes it, replay writes a line with the digest of each frame, with --pixels its rows too.
+info describes it, replay writes a line with the digest of each frame, with --pixels its rows too,
+and trim writes the capture of these frames alone.
 --help and --version alone write this text and the version.
 ";
 
@@ -29,7 +30,7 @@ fn help_and_version_go_to_the_sink_and_read_nothing(rt: HostRuntime) -> Result<(
 }
 
 /// Words of no command.
-const OTHERS: [&[&str]; 13] = [
+const OTHERS: [&[&str]; 18] = [
     &[],
     &["Info"],
     &["info", "info"],
@@ -41,13 +42,17 @@ const OTHERS: [&[&str]; 13] = [
     &["replay", "--frames", "02-3"],
     &["replay", "--frames", "1-18446744073709551616"],
     &["replay", "--frames", "1-2", "--pixels"],
+    &["trim"],
     &["trim", "2"],
+    &["trim", "3-2"],
+    &["trim", "02-3"],
+    &["trim", "--frames", "2-2"],
+    &["trim", "2-2", "--pixels"],
     &["make", "2"],
 ];
 
 /// Words of commands that are not built.
-const UNBUILT: [&[&str]; 4] = [
-    &["trim", "2-2"],
+const UNBUILT: [&[&str]; 3] = [
     &["make", "60"],
     &["capture"],
     &["capture", "--frames", "1-1"],

@@ -1,0 +1,70 @@
+//! Every file and each range of frames inside it: what is shown of the cut is what is shown of the range.
+
+use crate::files::{ONE_TEXEL, TWO_IMAGES, file_of, one_frame, three_frames};
+use crate::outside::{Outside, trim};
+use crate::{pictures, variants};
+use std::process::Abort;
+use std::test::Fail;
+
+/// Cuts a range out of a file, and compares what is shown of the cut with what is shown of the range.
+fn assert_same(rt: &(impl Abort + AllocGlobal), file: &[u8], range: &str) -> Result<(), Fail> {
+    let words = ["replay", "--pixels", "--frames", range];
+    let whole = Outside::of(&words, file).run(rt.alloc())?;
+    assert_eq!(rt; whole.status, 0, "of {range}");
+    let cut = trim(rt.alloc(), range, file)?;
+    assert_eq!(rt; cut.status, 0, "of {range}");
+    assert_eq!(rt; cut.left, whole.left, "of {range}");
+    let words = ["replay", "--pixels"];
+    Outside::of(&words, &cut.text).ends(rt, 0, &whole.text, b"")
+}
+
+/// Compares the ranges that begin with this frame.
+fn assert_from(
+    rt: &(impl Abort + AllocGlobal),
+    file: &[u8],
+    first: u32,
+    frames: u32,
+) -> Result<(), Fail> {
+    for last in first..=frames {
+        let range = format!(in rt.alloc(); "{first}-{last}")?;
+        assert_same(rt, file, &range)?;
+    }
+    Ok(())
+}
+
+/// Compares all ranges of a file of so many frames.
+fn assert_all(rt: &(impl Abort + AllocGlobal), file: &[u8], frames: u32) -> Result<(), Fail> {
+    for first in 1..=frames {
+        assert_from(rt, file, first, frames)?;
+    }
+    let past = format!(in rt.alloc(); "1-{}", frames.saturating_add(1))?;
+    assert_eq!(rt; trim(rt.alloc(), &past, file)?.status, 4);
+    Ok(())
+}
+
+#[test]
+fn a_cut_shows_what_the_whole_shows(rt: HostRuntime) -> Result<(), Fail> {
+    let alloc = rt.alloc();
+    for (file, frames) in [
+        (file_of(alloc, 1, &ONE_TEXEL)?, 1),
+        (file_of(alloc, 2, &TWO_IMAGES)?, 1),
+        (one_frame(alloc)?, 1),
+        (three_frames(alloc)?, 3),
+        (variants::crossing(alloc)?, 3),
+        (variants::freed(alloc)?, 3),
+        (variants::bound_late(alloc)?, 3),
+        (variants::signalled(alloc)?, 3),
+        (variants::sized(alloc, 134_217_728)?, 3),
+        (variants::sized(alloc, 268_435_453)?, 3),
+        (variants::filled_twice(alloc)?, 3),
+    ] {
+        assert_all(&rt, &file, frames)?;
+    }
+    for mut made in pictures::all(alloc)? {
+        made.show()?;
+        made.show_again()?;
+        made.show_again()?;
+        assert_all(&rt, made.bytes(), 3)?;
+    }
+    Ok(())
+}
