@@ -1,0 +1,6 @@
+mod Setup
+mod Frame
+mod Valid
+mod Numbers
+mod Writable
+mod File

@@ -1,0 +1,34 @@
+//! The capture file that is made to try the program.
+#![tactic(auto)]
+
+ghost use Rattle.gfx_make.specs.Laws.{MadeHasRange, MadeIsCounted, MadeIsMeant, MadeIsNumbered, MadeIsRead, MadeIsValid};
+
+/// No event of the capture has a fault.
+pub fn made_is_valid()
+    ensures { MadeIsValid }
+{}
+
+/// The capture has 25 events and 6 a frame.
+pub fn made_is_counted()
+    ensures { MadeIsCounted }
+{}
+
+/// Its frames have the numbers from 1 on.
+pub fn made_is_numbered()
+    ensures { MadeIsNumbered }
+{}
+
+/// The blocks of its file are those of its events, and the file ends cleanly.
+pub fn made_is_read()
+    ensures { MadeIsRead }
+{}
+
+/// The file means the frames of the capture.
+pub fn made_is_meant()
+    ensures { MadeIsMeant }
+{}
+
+/// Each range of its frames is inside the file.
+pub fn made_has_range()
+    ensures { MadeHasRange }
+{}
