@@ -1,6 +1,7 @@
-mod Setup
-mod Frame
+mod Begun
+mod OneFrame
 mod Valid
 mod Numbers
 mod Writable
-mod File
+mod Putting
+mod Meaning

@@ -12,8 +12,8 @@ use Rattle.gfx_laws.proofs.Told.{view-onto}
 use Rattle.gfx_laws.proofs.Ranges.{frames_parts}
 use Rattle.gfx_make.specs.Made.{setup, frame_bytes, frame_with, frame_events, made}
 use Rattle.gfx_make.specs.Laws.{MadeIsCounted, MadeIsNumbered}
-use Rattle.gfx_make.proofs.Setup.{ready}
-use Rattle.gfx_make.proofs.Frame.{unshown, Goes, setup_leaves}
+use Rattle.gfx_make.proofs.Begun.{ready}
+use Rattle.gfx_make.proofs.OneFrame.{unshown, Goes, setup_leaves}
 use Rattle.gfx_make.proofs.Valid.{image, offset, frame_goes_on, made_onto}
 
 abbrev numbers : List Frame → List ℕ

@@ -12,8 +12,8 @@ use Rattle.gfx_laws.specs.Laws.{view_after, GoOn}
 use Rattle.gfx_laws.proofs.Told.{valid_onto}
 use Rattle.gfx_make.specs.Made.{setup, frame_byte, frame_bytes, frame_events, made}
 use Rattle.gfx_make.specs.Laws.{MadeIsValid}
-use Rattle.gfx_make.proofs.Setup.{ready, setup_valid}
-use Rattle.gfx_make.proofs.Frame.{Fits, Goes, frame_goes, setup_leaves}
+use Rattle.gfx_make.proofs.Begun.{ready, setup_valid}
+use Rattle.gfx_make.proofs.OneFrame.{Fits, Goes, frame_goes, setup_leaves}
 
 pub length_frame : (k : ℕ) → length (frame_bytes k) ≡ 40960
 unfolding frame_bytes

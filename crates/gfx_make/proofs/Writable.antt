@@ -5,13 +5,13 @@ use Rattle.std.specs.List.{list_all, range_with_len, AllByRecursion}
 use Rattle.std.proofs.lemmas.Bool.{and_parts, leb-true, ltb-true, eqb-true}
 use Rattle.std.proofs.lemmas.Nat.{mod_below}
 use Rattle.gfx_model.specs.Events.{Event}
-use Rattle.gfx_model.specs.Events.Event.{CreateInstance, QueuePresentKHR, FillMemory}
+use Rattle.gfx_model.specs.Events.Event.{CreateInstance, QueuePresentKHR, FillMemory, AcquireNextImageKHR}
 use Rattle.gfx_model.specs.Spelling.{Field, FieldFits, IsOfVersion, fields_of, spelling, id_of, type_of, payload}
 use Rattle.gfx_model.specs.Spelling.Field.{id, u64, u32, raw}
 use Rattle.gfx_model.proofs.Lists.{all_append}
 use Rattle.gfx_grammar.specs.Framing.{CanBeWritten}
 use Rattle.gfx_section_law.proofs.Sizes.{fill_small}
-use Rattle.gfx_make.specs.Made.{setup, frame_byte, frame_bytes, frame_with, frame_events, made}
+use Rattle.gfx_make.specs.Made.{device, images, memory, buffers, signals, recording, waits, resets, submits, shows, setup, frame_byte, frame_bytes, frame_with, frame_events, made}
 use Rattle.gfx_make.proofs.Valid.{length_frame, image, offset}
 
 -- ---- events that can be looked at
@@ -23,7 +23,7 @@ field_fits (u32 n) = nat_lt n (2 ^ 32)
 field_fits (raw bytes) = nat_lt (length bytes) (2 ^ 64) && list_all (λ b. nat_lt b 256) bytes
 
 abbrev pub shows_one : Event → Bool
-shows_one (QueuePresentKHR queue waits presents) = length presents == 1
+shows_one (QueuePresentKHR _ _ presents) = length presents == 1
 shows_one (CreateInstance instance api) = true
 shows_one e = true
 
@@ -46,7 +46,7 @@ all_fit [] is = tt
 all_fit (f ∷ fs) is = let p = and_parts (field_fits f) _ is in (one_fits f p.0, all_fit fs p.1)
 
 of_version : (e : Event) → shows_one e ≡ true → IsOfVersion 1 e
-of_version (QueuePresentKHR queue waits presents) is = λ one. eqb-true (length presents) 1 is
+of_version (QueuePresentKHR _ _ presents) is = λ one. eqb-true (length presents) 1 is
 of_version (CreateInstance instance api) is = tt
 of_version e is = tt
 
@@ -75,6 +75,32 @@ pub setup_writable : AllByRecursion (CanBeWritten 1 0) setup
 unfolding opened setup
 setup_writable = all_writable setup refl
 
+pub device_writable : AllByRecursion (CanBeWritten 1 0) device
+unfolding opened
+device_writable = all_writable device refl
+
+pub images_writable : AllByRecursion (CanBeWritten 1 0) images
+unfolding opened
+images_writable = all_writable images refl
+
+pub memory_writable : AllByRecursion (CanBeWritten 1 0) memory
+unfolding opened
+memory_writable = all_writable memory refl
+
+pub buffers_writable : AllByRecursion (CanBeWritten 1 0) buffers
+unfolding opened
+buffers_writable = all_writable buffers refl
+
+pub signals_writable : AllByRecursion (CanBeWritten 1 0) signals
+unfolding opened
+signals_writable = all_writable signals refl
+
+pub recording_writable : (i : ℕ) → i < 2 → AllByRecursion (CanBeWritten 1 0) (recording i)
+unfolding opened
+recording_writable zero two = all_writable (recording zero) refl
+recording_writable (suc zero) two = all_writable (recording 1) refl
+recording_writable (suc (suc i)) two = absurd (omega (arith, two))
+
 -- bytes can be filled in
 pub fill_writable : (o : ℕ) (bytes : List ℕ) → o < 2 ^ 64 → length bytes ≤ 65536 → AllByRecursion (λ b. b < 256) bytes → CanBeWritten 1 0 (FillMemory 8 o bytes)
 unfolding fields_of
@@ -89,6 +115,12 @@ unfolding opened
 frame_writable zero o bytes two fill = (writable _ refl, (writable _ refl, (fill, (writable _ refl, (writable _ refl, (writable _ refl, tt))))))
 frame_writable (suc zero) o bytes two fill = (writable _ refl, (writable _ refl, (fill, (writable _ refl, (writable _ refl, (writable _ refl, tt))))))
 frame_writable (suc (suc i)) o bytes two fill = absurd (omega (arith, two))
+
+-- the same of events that are those of a frame
+pub frame_said : (i o : ℕ) (bytes : List ℕ) (a b s p : Event) → i < 2 → CanBeWritten 1 0 (FillMemory 8 o bytes) →
+    a ≡ waits → b ≡ resets → s ≡ submits (11 + i) → p ≡ shows i →
+    AllByRecursion (CanBeWritten 1 0) (a ∷ b ∷ FillMemory 8 o bytes ∷ AcquireNextImageKHR 3 5 13 0 i 0 ∷ s ∷ p ∷ [])
+frame_said i o bytes a b s p two fill wait reset submit show = rw wait (rw reset (rw submit (rw show (frame_writable i o bytes two fill))))
 
 bytes_below : (k a n : ℕ) → AllByRecursion (λ b. b < 256) (map (frame_byte k) (range_with_len a n))
 bytes_below k a zero = tt

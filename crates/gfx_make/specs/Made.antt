@@ -29,20 +29,28 @@ signals = CreateSemaphore 3 13 ∷ CreateSemaphore 3 14 ∷ CreateFence 3 15 1 �
 abbrev pub goes : (cb image before after : ℕ) → Event
 goes cb image before after = CmdPipelineBarrier cb (record { image = image; before = before; after = after } ∷ [])
 
+-- the buffer is copied into a whole image
+abbrev pub uploads : (cb image : ℕ) → Event
+uploads cb image =
+    CmdCopyBufferToImage cb 9 image 7 (record { offset = 0; row = 0; rows = 0; x = 0; y = 0; width = 640; height = 480 } ∷ [])
+
 -- command buffer 11 + i copies the buffer into image 6 + i, and leaves it ready to present
 abbrev pub recording : (i : ℕ) → List Event
 recording i =
     BeginCommandBuffer (11 + i) 0
     ∷ goes (11 + i) (6 + i) 0 7
-    ∷ CmdCopyBufferToImage (11 + i) 9 (6 + i) 7
-    (record { offset = 0; row = 0; rows = 0; x = 0; y = 0; width = 640; height = 480 } ∷ [])
+    ∷ uploads (11 + i) (6 + i)
     ∷ goes (11 + i) (6 + i) 7 1000001002
     ∷ EndCommandBuffer (11 + i)
     ∷ []
 
+-- all objects
+abbrev pub objects : List Event
+objects = device ++ images ++ memory ++ buffers ++ signals
+
 -- all that stands before the first frame
 unfoldable pub setup : List Event
-setup = device ++ images ++ memory ++ buffers ++ signals ++ recording 0 ++ recording 1
+setup = objects ++ recording 0 ++ recording 1
 
 -- byte j of the bytes that frame k fills in
 abbrev pub frame_byte : (k j : ℕ) → ℕ
@@ -52,16 +60,26 @@ frame_byte k j = (31 * k + 7 * j + j / 256) % 256
 unfoldable pub frame_bytes : (k : ℕ) → List ℕ
 frame_bytes k = map (frame_byte k) (range_with_len 0 40960)
 
+-- the fence is waited for
+abbrev pub waits : Event
+waits = WaitForFences 3 (15 ∷ []) 1 0
+
+-- and reset
+abbrev pub resets : Event
+resets = ResetFences 3 (15 ∷ [])
+
+-- a command buffer is executed once the image is there, and signals that it may be presented
+abbrev pub submits : (cb : ℕ) → Event
+submits cb = QueueSubmit 4 (record { waits = 13 ∷ []; cbs = cb ∷ []; signals = 14 ∷ [] } ∷ []) 15
+
+-- image i is presented
+abbrev pub shows : (i : ℕ) → Event
+shows i = QueuePresentKHR 4 (14 ∷ []) (record { swapchain = 5; index = i } ∷ [])
+
 -- a frame that fills in bytes, and copies and presents image i
 abbrev pub frame_with : (i offset : ℕ) (bytes : List ℕ) → List Event
 frame_with i offset bytes =
-    WaitForFences 3 (15 ∷ []) 1 0
-    ∷ ResetFences 3 (15 ∷ [])
-    ∷ FillMemory 8 offset bytes
-    ∷ AcquireNextImageKHR 3 5 13 0 i 0
-    ∷ QueueSubmit 4 (record { waits = 13 ∷ []; cbs = (11 + i) ∷ []; signals = 14 ∷ [] } ∷ []) 15
-    ∷ QueuePresentKHR 4 (14 ∷ []) (record { swapchain = 5; index = i } ∷ [])
-    ∷ []
+    waits ∷ resets ∷ FillMemory 8 offset bytes ∷ AcquireNextImageKHR 3 5 13 0 i 0 ∷ submits (11 + i) ∷ shows i ∷ []
 
 -- frame k, from 1 on: the two images take turns, and so do the thirty parts of the memory
 unfoldable pub frame_events : (k : ℕ) → List Event

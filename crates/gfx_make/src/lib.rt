@@ -3,6 +3,13 @@
 
 ghost use Rattle.gfx_make.specs.Laws.{MadeHasRange, MadeIsCounted, MadeIsMeant, MadeIsNumbered, MadeIsRead, MadeIsValid};
 
+mod file;
+mod frame;
+mod put;
+mod setup;
+
+pub use file::make_file;
+
 /// No event of the capture has a fault.
 pub fn made_is_valid()
     ensures { MadeIsValid }

@@ -1,4 +1,4 @@
-use Rattle.gfx_make.proofs.File.{made_is_read as law}
+use Rattle.gfx_make.proofs.Meaning.{made_is_read as law}
 use Rattle.gfx_make.proofs.made_is_read.Goals as goal
 
 pub returns : goal.returns

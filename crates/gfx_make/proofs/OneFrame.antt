@@ -4,14 +4,14 @@ use Rattle.std.specs.Prelude.{◌^◌}
 use Rattle.std.proofs.lemmas.Bool.{eqb-true}
 use Rattle.gfx_types.specs.declared.names.Fault.TheVariants.{BadValue, OutOfRange, LimitReached}
 use Rattle.gfx_model.specs.Events.{Event}
-use Rattle.gfx_model.specs.Events.Event.{WaitForFences, ResetFences, FillMemory, AcquireNextImageKHR, QueueSubmit}
+use Rattle.gfx_model.specs.Events.Event.{FillMemory, AcquireNextImageKHR}
 use Rattle.gfx_model.specs.Questions.{invalidated, is_once}
 use Rattle.gfx_model.specs.Checks.{unless, first, range_holds}
 use Rattle.gfx_model.specs.Table.{is_positive}
 use Rattle.gfx_model.proofs.Stand.{same_view}
 use Rattle.gfx_laws.specs.Laws.{view_after, GoOn}
-use Rattle.gfx_make.specs.Made.{frame_with}
-use Rattle.gfx_make.proofs.Setup.{opened, begun, ready}
+use Rattle.gfx_make.specs.Made.{waits, resets, submits, frame_with}
+use Rattle.gfx_make.proofs.Begun.{opened, begun, ready}
 
 -- ---- functions that differ at few places at most
 
@@ -119,13 +119,7 @@ module _ (k six seven offset : ℕ) (bytes : List ℕ) where
 
 -- the events of a frame up to its present
 abbrev pub unshown : (i offset : ℕ) (bytes : List ℕ) → List Event
-unshown i offset bytes =
-    WaitForFences 3 (15 ∷ []) 1 0
-    ∷ ResetFences 3 (15 ∷ [])
-    ∷ FillMemory 8 offset bytes
-    ∷ AcquireNextImageKHR 3 5 13 0 i 0
-    ∷ QueueSubmit 4 (record { waits = 13 ∷ []; cbs = (11 + i) ∷ []; signals = 14 ∷ [] } ∷ []) 15
-    ∷ []
+unshown i offset bytes = waits ∷ resets ∷ FillMemory 8 offset bytes ∷ AcquireNextImageKHR 3 5 13 0 i 0 ∷ submits (11 + i) ∷ []
 
 -- what a frame asks of its number and its bytes
 pub record Fits (k offset : ℕ) (bytes : List ℕ) : Type 0 where
