@@ -1,29 +1,11 @@
--- The numbers of the frames of a range, and how many blocks the file has.
-use Rattle.std.proofs.Common.{◌≡◌, ◌≤◌, ◌<◌, ◌+◌, ◌-◌, nat_le, ℕ, zero, suc, Bool, true, false, [], ◌∷◌, List, length, map, cond, filter, refl, ap, ◌∙◌, arith}
+-- The frames of a range.
+use Rattle.std.proofs.Common.{◌≡◌, ◌≤◌, ◌<◌, ◌+◌, ◌-◌, nat_le, ℕ, zero, suc, Bool, true, false, [], ◌∷◌, List, map, cond, filter, refl, ap, ◌∙◌, arith}
 use Rattle.std.specs.List.{range_with_len}
 use Rattle.std.proofs.lemmas.Bool.{le-leb, lt-leb}
-use Rattle.std.proofs.lemmas.List.{length-map}
 use Rattle.gfx_types.specs.declared.frame.Frame.{Frame}
-use Rattle.gfx_model.specs.Blocks.{Position, first_position, next_position}
-use Rattle.gfx_model.specs.Spelling.{header}
-use Rattle.gfx_model.specs.History.{onto}
-use Rattle.gfx_model.specs.Frames.{frames}
 use Rattle.gfx_model.specs.Meaning.{frames_to}
-use Rattle.gfx_grammar.specs.Framing.{Part, placed, made_part}
-use Rattle.gfx_grammar.specs.Splitting.{Blocks}
-use Rattle.gfx_make.specs.Made.{made}
-use Rattle.gfx_make.specs.Laws.{MadeIsCounted, MadeRangeIsNumbered}
-use Rattle.gfx_make.proofs.Numbers.{made_length, made_is_numbered}
-use Rattle.gfx_make.proofs.Meaning.{made_is_read}
-
-length-placed : (at : Position) (ps : List Part) → length (placed at ps) ≡ length ps
-length-placed at [] = refl
-length-placed at (p ∷ ps) = ap (λ n. suc n) (length-placed (next_position at p.bytes) ps)
-
-pub made_is_counted : MadeIsCounted
-made_is_counted n low =
-    let parts = map (made_part 1) (made n) in
-    ap (λ (b : Blocks). length b.items) (made_is_read n low) ∙ length-placed (first_position (header 1)) parts ∙ length-map (made n) (made_part 1) ∙ made_length n
+use Rattle.gfx_trim_law.specs.Law.{frames_from}
+use Rattle.gfx_make.specs.Shown.{shown_frame, shown_from}
 
 -- ---- ranges of numbers
 
@@ -61,22 +43,20 @@ module _ (first : ℕ) where
 
 -- ---- frames by their numbers
 
-numbers_kept : (t : ℕ → Bool) (fs : List Frame) → map (λ (f : Frame). f.number) (filter (λ f. t f.number) fs) ≡ filter t (map (λ (f : Frame). f.number) fs)
+numbers_kept : (t : ℕ → Bool) (ns : List ℕ) → filter (λ (f : Frame). t f.number) (map shown_frame ns) ≡ map shown_frame (filter t ns)
 numbers_kept t [] = refl
-numbers_kept t (f ∷ fs) = by (t f.number) (numbers_kept t fs)
+numbers_kept t (n ∷ ns) = by (t n) (numbers_kept t ns)
   where
-    numbers : List Frame → List ℕ
-    numbers fs = map (λ (f : Frame). f.number) fs
-
-    by : (b : Bool) → numbers (filter (λ f. t f.number) fs) ≡ filter t (numbers fs) →
-        numbers (cond b (f ∷ filter (λ f. t f.number) fs) (filter (λ f. t f.number) fs)) ≡ cond b (f.number ∷ filter t (numbers fs)) (filter t (numbers fs))
-    by true e = ap (λ ms. f.number ∷ ms) e
+    by : (b : Bool) → filter (λ (f : Frame). t f.number) (map shown_frame ns) ≡ map shown_frame (filter t ns) →
+        cond b (shown_frame n ∷ filter (λ (f : Frame). t f.number) (map shown_frame ns)) (filter (λ (f : Frame). t f.number) (map shown_frame ns))
+        ≡ map shown_frame (cond b (n ∷ filter t ns) (filter t ns))
+    by true e = ap (λ fs. shown_frame n ∷ fs) e
     by false e = e
 
-pub made_range_is_numbered : MadeRangeIsNumbered
-made_range_is_numbered n first last low one ordered within =
-    let all = frames (onto (made n) []) in
-    numbers_kept (λ m. nat_le first m) (frames_to last all)
-    ∙ ap (filter (λ m. nat_le first m)) (numbers_kept (λ m. nat_le m last) all ∙ ap (filter (λ m. nat_le m last)) (made_is_numbered n low))
-    ∙ ap (filter (λ m. nat_le first m)) (up_to last n 1 last within (omega arith))
-    ∙ from_on first (first - 1) last 1 (last + 1 - first) (omega (arith, one)) (omega (arith, one, ordered))
+pub shown_to : (n last : ℕ) → last ≤ n → frames_to last (shown_from 1 n) ≡ shown_from 1 last
+shown_to n last within = numbers_kept (λ m. nat_le m last) (range_with_len 1 n) ∙ ap (map shown_frame) (up_to last n 1 last within (omega arith))
+
+pub range_shown : (first last : ℕ) → 1 ≤ first → first ≤ last → frames_from first (shown_from 1 last) ≡ shown_from first (last + 1 - first)
+range_shown first last one ordered =
+    numbers_kept (λ m. nat_le first m) (range_with_len 1 last)
+    ∙ ap (map shown_frame) (from_on first (first - 1) last 1 (last + 1 - first) (omega (arith, one)) (omega (arith, one, ordered)))

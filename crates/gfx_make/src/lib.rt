@@ -1,7 +1,7 @@
 //! The capture file that is made to try the program.
 #![tactic(auto)]
 
-ghost use Rattle.gfx_make.specs.Laws.{MadeHasRange, MadeIsCounted, MadeIsMeant, MadeIsNumbered, MadeIsRead, MadeIsValid, MadeRangeIsNumbered};
+ghost use Rattle.gfx_make.specs.Laws.{MadeHasRange, MadeIsCounted, MadeIsMeant, MadeIsRead, MadeIsTrimmed, MadeIsValid, MadeShows};
 
 mod file;
 mod frame;
@@ -17,9 +17,9 @@ pub fn made_is_valid()
     ensures { MadeIsValid }
 {}
 
-/// Its frames have the numbers from 1 on.
-pub fn made_is_numbered()
-    ensures { MadeIsNumbered }
+/// Each frame shows the memory as it is then.
+pub fn made_shows()
+    ensures { MadeShows }
 {}
 
 /// The blocks of its file are those of its events, and the file ends cleanly.
@@ -42,7 +42,7 @@ pub fn made_has_range()
     ensures { MadeHasRange }
 {}
 
-/// The frames of such a range have the numbers from its first to its last.
-pub fn made_range_is_numbered()
-    ensures { MadeRangeIsNumbered }
+/// The trimmed file of such a range means just its frames.
+pub fn made_is_trimmed()
+    ensures { MadeIsTrimmed }
 {}

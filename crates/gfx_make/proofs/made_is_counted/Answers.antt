@@ -1,4 +1,4 @@
-use Rattle.gfx_make.proofs.Kept.{made_is_counted as law}
+use Rattle.gfx_make.proofs.Meaning.{made_is_counted as law}
 use Rattle.gfx_make.proofs.made_is_counted.Goals as goal
 
 pub returns : goal.returns
