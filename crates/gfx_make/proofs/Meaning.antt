@@ -1,0 +1,111 @@
+-- What the file of the capture means.
+use Rattle.std.proofs.Common.{◌≡◌, ◌≤◌, ◌<◌, ◌+◌, ◌*◌, ◌==◌, ℕ, zero, suc, Bool, true, false, [], ◌∷◌, List, length, map, cond, refl, ap, sym, subst, ◌∙◌, arith, inl, append-nil}
+use Rattle.std.specs.Prelude.{◌||◌}
+use Rattle.std.proofs.lemmas.Bool.{eqb-false}
+use Rattle.std.proofs.lemmas.List.{length-map}
+use Rattle.gfx_types.specs.declared.frame.Frame.{Frame}
+use Rattle.gfx_model.specs.Events.{Event}
+use Rattle.gfx_model.specs.Spelling.{HasSpelling, header}
+use Rattle.gfx_model.specs.Blocks.{AreBlocks, Position, first_position, next_position}
+use Rattle.gfx_model.specs.Blocks.End.{clean}
+use Rattle.gfx_model.specs.History.{onto, is_valid}
+use Rattle.gfx_model.specs.Frames.{frames}
+use Rattle.gfx_model.specs.Meaning.{Judged, Means, RangeEnd, events_onto, has_frame}
+use Rattle.gfx_model.specs.Trimmed.{file_of}
+use Rattle.gfx_model.proofs.Lists.{all_along}
+use Rattle.gfx_grammar.specs.Framing.{Part, CanBeWritten, placed, made_part, file_parts}
+use Rattle.gfx_grammar.specs.Splitting.{Blocks, blocks_of}
+use Rattle.gfx_grammar.specs.BlockLaws.{blocks_are_computed}
+use Rattle.gfx_grammar.specs.FileLaws.{file_is_read}
+use Rattle.gfx_grammar.specs.RoomLaws.{few-room}
+use Rattle.gfx_grammar.specs.Reads.{AreBytes}
+use Rattle.gfx_trim_law.proofs.Keeps.{trimming_keeps_frames}
+use Rattle.gfx_trim_law.proofs.Prefix.{judge-valid}
+use Rattle.gfx_trim_law.proofs.Bytes.{file_bytes}
+use Rattle.gfx_make.specs.Made.{made, made_file, blocks}
+use Rattle.gfx_make.specs.Shown.{shown_from}
+use Rattle.gfx_make.specs.Laws.{MadeIsRead, MadeIsCounted, MadeIsMeant, MadeHasRange, MadeIsTrimmed}
+use Rattle.gfx_make.proofs.Valid.{made_is_valid}
+use Rattle.gfx_make.proofs.Counting.{made_length}
+use Rattle.gfx_make.proofs.Shows.{made_shows}
+use Rattle.gfx_make.proofs.Kept.{shown_to, range_shown}
+use Rattle.gfx_make.proofs.Writable.{made_writable}
+
+module _ (n : ℕ) where
+  -- the file is one that is made of events, with no blocks behind them
+  made_is_file : made_file n ≡ file_of 1 (made n) []
+  unfolding made_file blocks
+  made_is_file = sym (append-nil (made_file n))
+
+  made_parts : file_parts 1 (made n) [] ≡ map (made_part 1) (made n)
+  made_parts = append-nil (map (made_part 1) (made n))
+
+  made_bytes : AreBytes (made_file n)
+  made_bytes = subst AreBytes (sym made_is_file)
+      (file_bytes 1 (made n) [] (all_along (CanBeWritten 1 0) (HasSpelling 1) (λ e w. w.fits) (made n) (made_writable n)) tt)
+
+-- what the blocks say are the events
+said_onto : (at : Position) (es h : List Event) → events_onto (placed at (map (made_part 1) es)) h ≡ onto es h
+said_onto at [] h = refl
+said_onto at (e ∷ es) h = said_onto (next_position at (made_part 1 e).bytes) es (e ∷ h)
+
+pub made_is_read : MadeIsRead
+made_is_read n low =
+    let first = first_position (header 1) in
+    let parts = file_parts 1 (made n) [] in
+    let long : length parts ≡ 25 + 6 * n = ap length (made_parts n) ∙ length-map (made n) (made_part 1) ∙ made_length n in
+    ap blocks_of (made_is_file n)
+    ∙ file_is_read 1 (made n) [] (inl refl) (made_writable n) tt (few-room first parts (omega (arith, long, low)) (omega (arith, long, low)))
+    ∙ ap (λ ps. record { items = placed first ps; end = clean }) (made_parts n)
+
+length-placed : (at : Position) (ps : List Part) → length (placed at ps) ≡ length ps
+length-placed at [] = refl
+length-placed at (p ∷ ps) = ap (λ n. suc n) (length-placed (next_position at p.bytes) ps)
+
+pub made_is_counted : MadeIsCounted
+made_is_counted n low =
+    let parts = map (made_part 1) (made n) in
+    ap (λ (b : Blocks). length b.items) (made_is_read n low) ∙ length-placed (first_position (header 1)) parts ∙ length-map (made n) (made_part 1) ∙ made_length n
+
+pub made_is_meant : MadeIsMeant
+made_is_meant n low =
+    let ws = placed (first_position (header 1)) (map (made_part 1) (made n)) in
+    let said : events_onto ws [] ≡ onto (made n) [] = said_onto (first_position (header 1)) (made n) [] in
+    let judged = judge-valid ws [] clean (ap is_valid said ∙ made_is_valid n low) in
+    record {
+      blocks = ws;
+      blocks_end = clean;
+      are = subst (λ (b : Blocks). AreBlocks (made_file n) b.items b.end) (made_is_read n low) (blocks_are_computed (made_file n) (made_bytes n)).0;
+      shows = sym (ap (λ (j : Judged). frames j.history) judged ∙ ap frames said ∙ made_shows n low);
+      ends = sym (ap (λ (j : Judged). j.end) judged);
+    }
+
+-- ---- ranges
+
+-- a frame of each number from a on is shown
+is_there : (n a k : ℕ) → a ≤ k → k < a + n → has_frame k (shown_from a n) ≡ true
+is_there zero a k low high = absurd (omega (arith, low, high))
+is_there (suc n) a k low high = by (a == k) refl (λ later. is_there n (a + 1) k later (omega (arith, high)))
+  where
+    by : (b : Bool) → (a == k) ≡ b → (a + 1 ≤ k → has_frame k (shown_from (a + 1) n) ≡ true) → (b || has_frame k (shown_from (a + 1) n)) ≡ true
+    by true e later = refl
+    by false e later = let other = eqb-false a k e in later (omega (arith, low, other))
+
+pub made_has_range : MadeHasRange
+made_has_range n first last low one ordered within = record {
+  bytes_fit = made_bytes n;
+  ordered = ordered;
+  means = record {
+    all = shown_from 1 n;
+    file_end = clean;
+    means = made_is_meant n low;
+    shows = sym (shown_to n last within);
+    ends = sym (ap (λ b. cond b RangeEnd.whole (RangeEnd.ended clean)) (is_there n 1 last (omega (arith, one, ordered)) (omega (arith, within))));
+  };
+  first_there = is_there last 1 first one (omega (arith, ordered));
+}
+
+pub made_is_trimmed : MadeIsTrimmed
+made_is_trimmed n first last taken low one ordered within is =
+    subst (λ (fs : List Frame). Means taken fs clean) (range_shown first last one ordered)
+    (trimming_keeps_frames first last (made_file n) taken (shown_from 1 last) (made_has_range n first last low one ordered within) is)
