@@ -122,15 +122,15 @@ bad_so first last all stage hasher left fault block offset p is = record {
 }
 
 -- at its clean end
-pub read_without : (first last : ℕ) (all : List ℕ) (stage : Stage) (hasher : FrameHasher) (left : List ℕ) (why : DigestFault) → HasRead first last all stage hasher left → coming stage left ≡ only_end clean →
-    why ≡ digest.NoSuchFrame (unwrap_or hasher.first (next_frame_of hasher)) (next_frame_of hasher - 1) → Digests first last (Err why) all left
-read_without first last all stage hasher left why p is told =
+pub read_without : (first last : ℕ) (all : List ℕ) (stage : Stage) (hasher : FrameHasher) (left rest : List ℕ) (why : DigestFault) → HasRead first last all stage hasher left → coming stage left ≡ only_end clean →
+    why ≡ digest.NoSuchFrame (unwrap_or hasher.first (next_frame_of hasher)) (next_frame_of hasher - 1) → Digests first last (Err why) all rest
+read_without first last all stage hasher left rest why p is told =
     let h = history_of p.fed in
     let e = judged_end p.fed stage all left clean p.fits (p.stands).replays.stands.valid is in
     let end_view = (view (judged_of (blocks_of all)).history).next_frame in
     let shows : frames_in all ≡ frames h = ap (λ (j : Judged). frames j.history) e in
     let next : next_frame_of hasher ≡ end_view = ap (λ (v : View). v.next_frame) (p.stands).replays.stands.answers_same ∙ ap (λ (j : Judged). (view j.history).next_frame) (sym e) in
-    subst (λ why. Digests first last (Err why) all left) (sym told) record {
+    subst (λ why. Digests first last (Err why) all rest) (sym told) record {
       end = ap (λ (j : Judged). j.end) e;
       unseen = ap (has_last (Between first last)) shows ∙ of_range first last hasher.range p.fed false p.range p.unseen;
       lowest_is = ap (λ n. unwrap_or hasher.first n) next ∙ ap (λ o. unwrap_or o end_view) ((p.stands).first ∙ ap first_of (sym shows));
@@ -147,6 +147,12 @@ header_fails first last (decoder.Bad fault block offset) all left gives =
     record { end = ap (λ (j : Judged). j.end) is; unseen = ap (λ (j : Judged). has_last (Between first last) (frames j.history)) is }
 header_fails first last decoder.ReadFault all left gives = tt
 header_fails first last decoder.WantMemory all left gives = tt
+
+-- a failed read is told as one
+pub read_failed : (why : DecodeFault) → of_decoder why ≡ digest.ReadFault → why ≡ decoder.ReadFault
+read_failed (decoder.Bad fault block offset) is = absurd cc
+read_failed decoder.ReadFault is = refl
+read_failed decoder.WantMemory is = absurd cc
 
 -- no block came
 pub next_fails : (first last : ℕ) (stage : Stage) (hasher : FrameHasher) (why : DecodeFault) (all left rest : List ℕ) → HasRead first last all stage hasher left → Gives stage (Err why) left rest →

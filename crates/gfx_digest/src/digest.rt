@@ -40,10 +40,25 @@ pub fn digest_frames<S: Source>(
     ensures later { S.faults source.old ≤ S.faults source.new }
 {
     let mut buffer = vec![in alloc; 0; PIECE]?;
+    digest_range(alloc, FrameRange { first, last }, buffer.as_mut_slice(), source)
+}
+
+/// Hashes the frames of a range of a whole file.
+fn digest_range<S: Source>(
+    alloc: Global,
+    range: FrameRange,
+    buffer: &mut [u8],
+    source: &mut S,
+) -> Result<Digested, DigestFault>
+    requires space { 0 < length buffer.old }
+    ensures told { IfTold (S.left source.old) (S.left source.new) (Digests range.first range.last result) }
+    ensures read_fault { result ≡ Err DigestFault.ReadFault → Rose (S.faults source.old) (S.faults source.new) }
+    ensures later { S.faults source.old ≤ S.faults source.new }
+{
     let mut decoder = Decoder::new(alloc);
     decoder.header(source)?;
-    let mut hasher = FrameHasher::new(alloc, FrameRange { first, last });
-    digest_blocks(alloc, &mut hasher, &mut decoder, buffer.as_mut_slice(), source)
+    let mut hasher = FrameHasher::new(alloc, range);
+    digest_blocks(alloc, &mut hasher, &mut decoder, buffer, source)
 }
 
 /// Hashes the frames of the blocks that are left.
