@@ -1,7 +1,6 @@
 -- The bytes of images, hashed piece by piece.
-use Rattle.std.proofs.Common.{◌≡◌, ◌+◌, ◌≤◌, ◌<◌, ℕ, zero, List, [], ◌∷◌, ◌++◌, length, take, drop, get_or, drop-cons, suc, Option, Some, None, IsSomeAnd, refl, sym, ap, ◌∙◌, append_assoc, arith}
-use Rattle.std.specs.Prelude.{flat_map, map, unwrap_or}
-use Rattle.std.specs.Option.{option_map}
+use Rattle.std.proofs.Common.{◌≡◌, ◌+◌, ◌≤◌, ◌<◌, ℕ, List, [], ◌∷◌, ◌++◌, length, take, get_or, drop-cons, refl, sym, ap, ◌∙◌, append_assoc}
+use Rattle.std.specs.Prelude.{flat_map, map}
 use Rattle.std.specs.List.{slice_range}
 use Rattle.std.proofs.Math.Seq.{take-add, take-length}
 use Rattle.std.proofs.lemmas.List.{append-nil}
@@ -20,19 +19,6 @@ use Rattle.gfx_digest.specs.Images.{frame_bytes}
 pub piece_more : (before all : List ℕ) (at count : ℕ) (buffer piece : List ℕ) → count ≤ length buffer → piece ≡ slice_range all at (at + length (take count buffer)) →
     (before ++ take at all) ++ piece ≡ before ++ take (at + count) all
 piece_more before all at count buffer piece fits is = append_assoc before (take at all) piece ∙ ap (λ l. before ++ l) (one_more all at count buffer piece fits is)
-
--- how many bytes a place has, none where it isn't there
-abbrev pub size_of : Option (List ℕ) → ℕ
-size_of o = unwrap_or (option_map length o) 0
-
-pub piece_there : (o : Option (List ℕ)) (at n size : ℕ) → size ≡ size_of o → at < size → at + n ≤ size → IsSomeAnd o (λ all. at + n ≤ length all)
-piece_there None at n size is below within = absurd (omega (arith, is, below))
-piece_there (Some all) at n size is below within = omega (arith, is, within)
-
-pub whole_place : (o : Option (List ℕ)) (at : ℕ) → at ≡ size_of o → take at (unwrap_or o []) ≡ unwrap_or o []
-whole_place None zero is = refl
-whole_place None (suc n) is = refl
-whole_place (Some all) at is = ap (λ n. take n all) is ∙ take-length all
 
 -- ---- the images of a frame
 

@@ -1,14 +1,13 @@
 -- A file whose frames are hashed, up to the last of the range.
-use Rattle.std.proofs.Common.{◌≡◌, ◌-◌, ℕ, Bool, true, false, List, [], ◌∷◌, ◌++◌, length, Option, Some, None, Result, Ok, Err, refl, sym, ap, subst, ◌∙◌, append_assoc}
+use Rattle.std.proofs.Common.{◌≡◌, ◌-◌, ℕ, Bool, true, false, List, [], ◌∷◌, ◌++◌, length, Err, refl, sym, ap, subst, ◌∙◌, append_assoc}
 use Rattle.std.specs.Prelude.{unwrap_or}
 use Rattle.sha2.specs.Hashers.{Holds256}
 use Rattle.sha2.specs.Sha256.{sha256}
 use Rattle.gfx_types.specs.declared.names.Fault.{Fault}
-use Rattle.gfx_model.specs.Events.{Event}
-use Rattle.gfx_model.specs.Blocks.{End, Whole}
+use Rattle.gfx_model.specs.Blocks.{Whole}
 use Rattle.gfx_model.specs.Blocks.End.{clean, bad}
 use Rattle.gfx_model.specs.Frames.{frames}
-use Rattle.gfx_model.specs.History.{is_valid, view}
+use Rattle.gfx_model.specs.History.{view}
 use Rattle.gfx_model.specs.Meaning.{Judged, content_onto, judge}
 use Rattle.gfx_model.specs.Views.{View}
 use Rattle.gfx_grammar.specs.Splitting.{Blocks, blocks_of, only_end}
@@ -16,7 +15,7 @@ use Rattle.gfx_trim_law.proofs.Cuts.{onto_parts}
 use Rattle.gfx_blocks.specs.declared.header.Header.{Header}
 use Rattle.gfx_decode.specs.Decoding.{Gives, GivesHeader, IsBlockAt, behind, coming, item_of, start_of}
 use Rattle.gfx_decode.specs.Fed.{ComesNext, IsFed, history_of}
-use Rattle.gfx_decode.specs.Meanings.{end_of, frames_in, judged_of}
+use Rattle.gfx_decode.specs.Meanings.{frames_in, judged_of}
 use Rattle.gfx_decode.specs.Reading.{IsHeader}
 use Rattle.gfx_decode.specs.Stage.{Stage, At}
 use Rattle.gfx_decode.specs.declared.decoder.Raw.{Raw}
@@ -24,8 +23,6 @@ use Rattle.gfx_decode.specs.declared.fault.DecodeFault.{DecodeFault}
 use Rattle.gfx_decode.specs.declared.fault.DecodeFault.TheVariants as decoder
 use Rattle.gfx_decode.proofs.Feeding.{block_comes, fed_blocks, fed_more, fed_none, next_comes}
 use Rattle.gfx_decode.proofs.Judging.{judged_end, judged_fault}
-use Rattle.gfx_tracker.specs.Tracker.{answers}
-use Rattle.gfx_play.specs.declared.asked.Asked.{Asked}
 use Rattle.gfx_play.specs.declared.asked.Asked.TheVariants.{Between}
 use Rattle.gfx_play.specs.Asked.{asked_of, first_of, has_last}
 use Rattle.gfx_play.proofs.Later.{last_shown}
@@ -34,9 +31,9 @@ use Rattle.gfx_digest.specs.declared.fault.DigestFault.{DigestFault}
 use Rattle.gfx_digest.specs.declared.fault.DigestFault.TheVariants as digest
 use Rattle.gfx_digest.specs.declared.hasher.FrameHasher.{FrameHasher}
 use Rattle.gfx_digest.specs.declared.range.FrameRange.{FrameRange}
-use Rattle.gfx_digest.specs.Digests.{Digests, IsBadBefore, IsDigest, IsWithout}
+use Rattle.gfx_digest.specs.Digests.{Digests, IsBadBefore, IsDigest}
 use Rattle.gfx_digest.specs.Faults.{of_decoder}
-use Rattle.gfx_digest.specs.Hashers.{IsAfter, Refuses, Takes, ends_by, next_frame_of}
+use Rattle.gfx_digest.specs.Hashers.{IsAfter, Refuses, Takes, next_frame_of}
 use Rattle.gfx_digest.specs.Images.{image_bytes}
 use Rattle.gfx_digest.specs.Ranges.{asked_by}
 use Rattle.gfx_digest.specs.Reads.{HasRead}
@@ -148,12 +145,6 @@ header_fails first last (decoder.Bad fault block offset) all left gives =
 header_fails first last decoder.ReadFault all left gives = tt
 header_fails first last decoder.WantMemory all left gives = tt
 
--- a failed read is told as one
-pub read_failed : (why : DecodeFault) → of_decoder why ≡ digest.ReadFault → why ≡ decoder.ReadFault
-read_failed (decoder.Bad fault block offset) is = absurd cc
-read_failed decoder.ReadFault is = refl
-read_failed decoder.WantMemory is = absurd cc
-
 -- no block came
 pub next_fails : (first last : ℕ) (stage : Stage) (hasher : FrameHasher) (why : DecodeFault) (all left rest : List ℕ) → HasRead first last all stage hasher left → Gives stage (Err why) left rest →
     Digests first last (Err (of_decoder why)) all rest
@@ -168,7 +159,7 @@ pub take_fails : (first last : ℕ) (old : Stage) (was : FrameHasher) (raw : Raw
 take_fails first last old was raw (digest.Bad fault block offset) all left rest p here took refuses =
     let w = item_of raw in
     let is : IsBadBefore first last fault w.number w.offset all = bad_so first last all old was left fault w.number w.offset p
-        (judged_fault p.fed w (coming (behind old raw) rest) old all left fault p.fits (p.stands).replays.stands.valid (next_comes old (behind old raw) w left rest (block_comes old raw here) took) refuses.2) in
+    (judged_fault p.fed w (coming (behind old raw) rest) old all left fault p.fits (p.stands).replays.stands.valid (next_comes old (behind old raw) w left rest (block_comes old raw here) took) refuses.2) in
     subst (λ n. IsBadBefore first last fault n offset all) (sym refuses.0) (subst (λ n. IsBadBefore first last fault w.number n all) (sym refuses.1) is)
 take_fails first last old was raw (digest.NoSuchFrame lowest highest) all left rest p here took refuses = absurd refuses
 take_fails first last old was raw digest.ReadFault all left rest p here took refuses = absurd refuses

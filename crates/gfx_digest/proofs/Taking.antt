@@ -1,5 +1,5 @@
 -- A block that a hasher takes.
-use Rattle.std.proofs.Common.{◌≡◌, ◌+◌, ℕ, Bool, true, false, if◌then◌else◌, ◌||◌, List, [], ◌∷◌, ◌++◌, length, Option, Some, None, Err, refl, sym, ap, subst, ◌∙◌}
+use Rattle.std.proofs.Common.{◌≡◌, ◌+◌, ℕ, Bool, true, false, if◌then◌else◌, ◌||◌, List, [], ◌∷◌, ◌++◌, Option, Some, None, refl, sym, ap, subst, ◌∙◌}
 use Rattle.std.specs.Prelude.{unwrap_or}
 use Rattle.std.specs.List.{list_any}
 use Rattle.std.proofs.lemmas.List.{append-nil}
@@ -17,7 +17,7 @@ use Rattle.gfx_replay.specs.Shown.{frame_of}
 use Rattle.gfx_replay.specs.declared.replayer.Replayer.{Replayer}
 use Rattle.gfx_replay.specs.declared.shown.ShownFrame.{ShownFrame}
 use Rattle.gfx_play.specs.declared.asked.Asked.{Asked}
-use Rattle.gfx_play.specs.Asked.{asked_of, first_of, has_last, is_asked, is_last}
+use Rattle.gfx_play.specs.Asked.{asked_of, has_last, is_asked, is_last}
 use Rattle.gfx_play.specs.Screens.{first_with, list_of, shown_by}
 use Rattle.gfx_play.proofs.Asking.{asked_more, frames_more, if_asked}
 use Rattle.gfx_play.proofs.Taking.{frames_none, frames_one, none_taken, one_if, one_taken}
@@ -84,10 +84,10 @@ taken_one old new r h c shown last after fed same k =
     let number : unwrap_or old.first f.number ≡ first_with (frames h) f.number = ap (λ o. unwrap_or o f.number) after.first in
     -- the screens that would show these frames
     let t = one_taken
-        record { replayer = old.replayer; asked = asked_by old.range; listing = record { minor = 1; pixels = false }; first = old.first; count = old.count }
-        record { replayer = new.replayer; asked = asked_by new.range; listing = record { minor = 1; pixels = false }; first = new.first; count = new.count }
-        h c shown last record { replays = after.replays; first = after.first; count = after.count } (subst (λ r. IsFed r h c (Some shown)) (sym same) fed)
-        record { asked = ap asked_by k.range; listing = refl; first = k.first; count = k.count; last = k.ends } in
+    record { replayer = old.replayer; asked = asked_by old.range; listing = record { minor = 1; pixels = false }; first = old.first; count = old.count }
+    record { replayer = new.replayer; asked = asked_by new.range; listing = record { minor = 1; pixels = false }; first = new.first; count = new.count }
+    h c shown last record { replays = after.replays; first = after.first; count = after.count } (subst (λ r. IsFed r h c (Some shown)) (sym same) fed)
+    record { asked = ap asked_by k.range; listing = refl; first = k.first; count = k.count; last = k.ends } in
     record {
       after = record {
         replays = (t.after).replays;
@@ -108,9 +108,9 @@ pub taken_none : (old new : FrameHasher) (h : List Event) (c : Content) → IsAf
     Takes old new h c false
 taken_none old new h c after fed range first count hasher =
     let t = none_taken
-        record { replayer = old.replayer; asked = asked_by old.range; listing = record { minor = 1; pixels = false }; first = old.first; count = old.count }
-        record { replayer = new.replayer; asked = asked_by new.range; listing = record { minor = 1; pixels = false }; first = new.first; count = new.count }
-        h c record { replays = after.replays; first = after.first; count = after.count } fed (ap asked_by range) refl first count in
+    record { replayer = old.replayer; asked = asked_by old.range; listing = record { minor = 1; pixels = false }; first = old.first; count = old.count }
+    record { replayer = new.replayer; asked = asked_by new.range; listing = record { minor = 1; pixels = false }; first = new.first; count = new.count }
+    h c record { replays = after.replays; first = after.first; count = after.count } fed (ap asked_by range) refl first count in
     record {
       after = record {
         replays = (t.after).replays;

@@ -40,7 +40,12 @@ pub fn digest_frames<S: Source>(
     ensures later { S.faults source.old ≤ S.faults source.new }
 {
     let mut buffer = vec![in alloc; 0; PIECE]?;
-    digest_range(alloc, FrameRange { first, last }, buffer.as_mut_slice(), source)
+    digest_range(
+        alloc,
+        FrameRange { first, last },
+        buffer.as_mut_slice(),
+        source,
+    )
 }
 
 /// Hashes the frames of a range of a whole file.

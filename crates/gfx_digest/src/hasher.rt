@@ -91,11 +91,7 @@ impl FrameHasher {
     }
 
     /// Takes a block of a file, as `take` does, and lets go of it. A rule fault is one of this block.
-    pub(crate) fn take_raw(
-        &mut self,
-        raw: Raw<'_>,
-        buffer: &mut [u8],
-    ) -> Result<bool, DigestFault>
+    pub(crate) fn take_raw(&mut self, raw: Raw<'_>, buffer: &mut [u8]) -> Result<bool, DigestFault>
         requires space { 0 < length buffer.old }
         requires room { self.old.count < 2 ^ 63 }
         requires after { (h : List Event) × IsAfter self.old h }
