@@ -9,9 +9,10 @@ use crate::put::{ids_of, one, put_all};
 use gfx_types::{Call, Effect, Meta, Present, Presents, Submit, Submits, WantMemory};
 use std::alloc::Global;
 
-/// How many bytes a frame fills in, and into how many parts of the memory.
+/// How many bytes a frame fills in.
 const PART: u64 = 40_960;
 
+/// How many such parts the memory has.
 const PARTS: u64 = 30;
 
 /// The bytes that a frame fills in.

@@ -1,7 +1,6 @@
 //! What stands before the first frame.
 ghost use Rattle.std.specs.Prelude.{◌≡◌, ◌<◌, ◌++◌, IfOk, OnOk};
 ghost use Rattle.gfx_model.specs.Events.{event_of};
-ghost use Rattle.gfx_model.specs.Events.Event.{CmdCopyBufferToImage};
 ghost use Rattle.gfx_make.specs.Made as made;
 ghost use Rattle.gfx_make.specs.Made.{blocks};
 
@@ -9,11 +8,13 @@ use crate::put::{ids_of, one, put_all};
 use gfx_types::{Barrier, Barriers, Call, Effect, MixedRegion, MixedRegions, WantMemory};
 use std::alloc::Global;
 
-/// UNDEFINED, TRANSFER_DST_OPTIMAL and PRESENT_SRC_KHR.
+/// The layout UNDEFINED.
 const UNDEFINED: u32 = 0;
 
+/// The layout TRANSFER_DST_OPTIMAL.
 const TARGET: u32 = 7;
 
+/// The layout PRESENT_SRC_KHR.
 const PRESENT: u32 = 1_000_001_002;
 
 /// The bytes of the memory, as many as an image has.
