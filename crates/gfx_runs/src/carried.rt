@@ -3,6 +3,7 @@
 use crate::cuts::{MAPPED, STATES, cut_file, later_cut};
 use crate::files::{NEXT_FRAME, ONE_FRAME, with_bytes};
 use crate::outside::Outside;
+use crate::pictures::PIXELS;
 use crate::variants::{
     BEGUN, ENDED, FAR_FILL, SIGNALLED, UNUSED, WAITED_FOR, bound_late, crossing, filled_twice,
     freed, signalled, sized, used,
@@ -11,16 +12,16 @@ use std::process::Abort;
 use std::test::Fail;
 
 /// Cuts a range out of a file, and compares the cut and the rows that are shown of it.
-fn assert_cut(
+fn assert_cut<'a>(
     rt: &(impl Abort + AllocGlobal),
-    file: &[u8],
-    range: &str,
+    file: &'a [u8],
+    range: &'a str,
     cut: &[u8],
     shown: &[u8],
 ) -> Result<(), Fail> {
     let words = ["trim", range];
     Outside::of(&words, file).ends(rt, 0, cut, b"")?;
-    Outside::of(&["replay", "--pixels"], cut).ends(rt, 0, shown, b"")
+    Outside::of(PIXELS, cut).ends(rt, 0, shown, b"")
 }
 
 const SECOND: &[u8] =

@@ -26,12 +26,12 @@ impl Case {
     }
 
     /// Cuts where the reads and the writes with these numbers fail, of at most so many bytes each.
-    fn run(
-        &self,
+    fn run<'a>(
+        &'a self,
         alloc: Global,
         most: usize,
-        failing_reads: &[u64],
-        failing_writes: &[u64],
+        failing_reads: &'a [u64],
+        failing_writes: &'a [u64],
     ) -> Result<Ended, AllocError> {
         let outside = Outside {
             failing_reads,

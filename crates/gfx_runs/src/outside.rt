@@ -36,7 +36,7 @@ pub(crate) fn words_of(alloc: Global, words: &[&str]) -> Result<Vec<String>, All
 }
 
 /// How it ends that this range is cut out of a file, which comes whole, where no call fails.
-pub(crate) fn trim(alloc: Global, range: &str, file: &[u8]) -> Result<Ended, AllocError> {
+pub(crate) fn trim<'a>(alloc: Global, range: &'a str, file: &'a [u8]) -> Result<Ended, AllocError> {
     let words = ["trim", range];
     Outside::of(&words, file).run(alloc)
 }

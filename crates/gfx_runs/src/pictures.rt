@@ -7,7 +7,8 @@ use gfx_types::BufferRegion;
 use std::alloc::Global;
 use std::test::Fail;
 
-const PIXELS: &[&str] = &["replay", "--pixels"];
+/// The words that show the rows of all frames.
+pub(crate) const PIXELS: &[&str] = &["replay", "--pixels"];
 
 /// The captures of this module whose effects are all accepted, up to the end of their recording.
 pub(crate) fn all(alloc: Global) -> Result<[Made; 5], Fail> {

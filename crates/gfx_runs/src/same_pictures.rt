@@ -2,20 +2,24 @@
 
 use crate::files::{ONE_TEXEL, TWO_IMAGES, file_of, one_frame, three_frames};
 use crate::outside::{Outside, trim};
-use crate::{pictures, variants};
+use crate::pictures::{PIXELS, all};
+use crate::variants;
 use std::process::Abort;
 use std::test::Fail;
 
 /// Cuts a range out of a file, and compares what is shown of the cut with what is shown of the range.
-fn assert_same(rt: &(impl Abort + AllocGlobal), file: &[u8], range: &str) -> Result<(), Fail> {
+fn assert_same<'a>(
+    rt: &(impl Abort + AllocGlobal),
+    file: &'a [u8],
+    range: &'a str,
+) -> Result<(), Fail> {
     let words = ["replay", "--pixels", "--frames", range];
     let whole = Outside::of(&words, file).run(rt.alloc())?;
     assert_eq!(rt; whole.status, 0, "of {range}");
     let cut = trim(rt.alloc(), range, file)?;
     assert_eq!(rt; cut.status, 0, "of {range}");
     assert_eq!(rt; cut.left, whole.left, "of {range}");
-    let words = ["replay", "--pixels"];
-    Outside::of(&words, &cut.text).ends(rt, 0, &whole.text, b"")
+    Outside::of(PIXELS, &cut.text).ends(rt, 0, &whole.text, b"")
 }
 
 /// Compares the ranges that begin with this frame.
@@ -60,7 +64,7 @@ fn a_cut_shows_what_the_whole_shows(rt: HostRuntime) -> Result<(), Fail> {
     ] {
         assert_all(&rt, &file, frames)?;
     }
-    for mut made in pictures::all(alloc)? {
+    for mut made in all(alloc)? {
         made.show()?;
         made.show_again()?;
         made.show_again()?;

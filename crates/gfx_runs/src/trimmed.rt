@@ -1,7 +1,10 @@
 //! Ranges that `trim` cuts out of the file of three frames.
 
-use crate::cuts::{first_cut, later_cut};
-use crate::files::{NEXT_FRAME, THREE_SHOWN, TWO_IMAGES, append, file_of, one_frame, three_frames};
+use crate::cuts::{cut_file, first_cut, later_cut};
+use crate::files::{
+    NEXT_FRAME, ONE_FRAME, THREE_SHOWN, TWO_IMAGES, append, file_of, one_frame, three_frames,
+    with_bytes,
+};
 use crate::outside::{Outside, trim};
 use std::process::Abort;
 use std::test::Fail;
@@ -12,10 +15,10 @@ const NOTHING_THERE: &[u8] = b"no such frame: the file has 1 to 3\n";
 const SKIPPED: &str = "030000000000000005000000646566";
 
 /// Cuts a range out of a file, in any cutting, and compares how it ends and how many bytes it leaves.
-fn assert_ends(
+fn assert_ends<'a>(
     rt: &(impl Abort + AllocGlobal),
-    range: &str,
-    file: &[u8],
+    range: &'a str,
+    file: &'a [u8],
     (status, cut, notes): (u8, &[u8], &[u8]),
     left: usize,
 ) -> Result<(), Fail> {
@@ -47,7 +50,7 @@ fn a_frame_is_cut_out_behind_the_state_before_it(rt: HostRuntime) -> Result<(), 
     let file = three_frames(rt.alloc())?;
     let cut = later_cut(rt.alloc(), 2, &[&NEXT_FRAME])?;
     assert_eq!(rt; cut.len(), 1310);
-    assert_eq!(rt; &cut[1090..], &file[1131..1351]);
+    assert_eq!(rt; cut.as_slice().get(1090..), file.as_slice().get(1131..1351));
     assert_ends(&rt, "2-2", &file, (0, &cut, b""), 220)?;
     let counts = b"version 1000.1\nblocks 27\ncalls 22\nframes 1\n";
     Outside::info(&cut).ends(&rt, 0, counts, b"")?;
@@ -169,20 +172,19 @@ fn skipped_blocks_of_a_range_are_kept(rt: HostRuntime) -> Result<(), Fail> {
 #[test]
 fn a_cut_has_the_minor_version_of_its_file(rt: HostRuntime) -> Result<(), Fail> {
     let file = file_of(rt.alloc(), 2, &TWO_IMAGES)?;
-    let cut = trim(rt.alloc(), "1-1", &file)?;
-    assert_eq!(rt; cut.status, 0);
-    assert_eq!(rt; cut.text.len(), 1076);
-    assert_eq!(rt; &cut.text[..16], &file[..16]);
-    assert_eq!(rt; &cut.text[64..], &file[16..]);
-    Ok(())
+    let cut = cut_file(rt.alloc(), 1, &[], &[&TWO_IMAGES])?;
+    assert_eq!(rt; cut.len(), 1076);
+    let cut = with_bytes(cut, 8, &[2]);
+    assert_ends(&rt, "1-1", &file, (0, &cut, b""), 0)
 }
 
 #[test]
 fn a_cut_has_no_options(rt: HostRuntime) -> Result<(), Fail> {
-    let file = three_frames(rt.alloc())?;
-    let mut with_option = Vec::from_slice(rt.alloc(), &file[..12])?;
-    with_option.extend_from_slice(b"\x01\0\0\0\x07\0\0\0\x01\0\0\0")?;
-    with_option.extend_from_slice(&file[16..])?;
+    // A header with the option 7 = 1.
+    let mut file = with_bytes(file_of(rt.alloc(), 1, &[])?, 12, &[1]);
+    file.extend_from_slice(b"\x07\0\0\0\x01\0\0\0")?;
+    append(rt.alloc(), &ONE_FRAME, &mut file)?;
+    append(rt.alloc(), &NEXT_FRAME, &mut file)?;
     let cut = later_cut(rt.alloc(), 2, &[&NEXT_FRAME])?;
-    assert_ends(&rt, "2-2", &with_option, (0, &cut, b""), 220)
+    assert_ends(&rt, "2-2", &file, (0, &cut, b""), 0)
 }

@@ -75,16 +75,12 @@ fn with_more(
     third: &[&str],
 ) -> Result<Vec<u8>, Fail> {
     let mut file = file_of(alloc, 1, &ONE_FRAME[..19])?;
-    for blocks in [
-        first,
-        &ONE_FRAME[19..],
-        second,
-        &NEXT_FRAME,
-        third,
-        &NEXT_FRAME,
-    ] {
-        append(alloc, blocks, &mut file)?;
-    }
+    append(alloc, first, &mut file)?;
+    append(alloc, &ONE_FRAME[19..], &mut file)?;
+    append(alloc, second, &mut file)?;
+    append(alloc, &NEXT_FRAME, &mut file)?;
+    append(alloc, third, &mut file)?;
+    append(alloc, &NEXT_FRAME, &mut file)?;
     Ok(file)
 }
 
