@@ -18,6 +18,8 @@ mod interrupted;
 #[cfg(test)]
 mod made;
 #[cfg(test)]
+mod making;
+#[cfg(test)]
 mod outside;
 #[cfg(test)]
 mod pictures;

@@ -10,7 +10,7 @@ const HELP: &[u8] =
     b"usage: gfxcap info; replay [--pixels] [--frames A-B]; trim A-B; capture [--frames A-B]; make N
 A capture is read from standard input, and frames A to B are those with these numbers.
 info describes it, replay writes a line with the digest of each frame, with --pixels its rows too,
-and trim writes the capture of these frames alone.
+and trim writes the capture of these frames alone. make tries the program on a capture of N frames.
 --help and --version alone write this text and the version.
 ";
 
@@ -30,7 +30,7 @@ fn help_and_version_go_to_the_sink_and_read_nothing(rt: HostRuntime) -> Result<(
 }
 
 /// Words of no command.
-const OTHERS: [&[&str]; 18] = [
+const OTHERS: [&[&str]; 20] = [
     &[],
     &["Info"],
     &["info", "info"],
@@ -49,11 +49,12 @@ const OTHERS: [&[&str]; 18] = [
     &["trim", "--frames", "2-2"],
     &["trim", "2-2", "--pixels"],
     &["make", "2"],
+    &["make", "03"],
+    &["make", "1001"],
 ];
 
 /// Words of commands that are not built.
-const UNBUILT: [&[&str]; 3] = [
-    &["make", "60"],
+const UNBUILT: [&[&str]; 2] = [
     &["capture"],
     &["capture", "--frames", "1-1"],
 ];
