@@ -5,10 +5,10 @@ mod Valid
 -- ---- the bytes that a frame shows
 mod RowBytes
 mod MemoryBytes
-mod Shows
+pub mod Shows
 -- ---- the file
 mod Writable
 mod Counting
-mod Kept
-mod Meaning
+pub mod Kept
+pub mod Meaning
 mod Putting

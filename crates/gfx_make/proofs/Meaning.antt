@@ -1,16 +1,14 @@
 -- What the file of the capture means.
-use Rattle.std.proofs.Common.{◌≡◌, ◌≤◌, ◌<◌, ◌+◌, ◌*◌, ◌==◌, ℕ, zero, suc, Bool, true, false, [], ◌∷◌, List, length, map, cond, refl, ap, sym, subst, ◌∙◌, arith, inl, append-nil}
-use Rattle.std.specs.Prelude.{◌||◌}
-use Rattle.std.proofs.lemmas.Bool.{eqb-false}
+use Rattle.std.proofs.Common.{◌≡◌, ◌+◌, ◌*◌, ℕ, suc, [], ◌∷◌, List, length, map, cond, refl, ap, sym, subst, ◌∙◌, arith, inl, append-nil}
 use Rattle.std.proofs.lemmas.List.{length-map}
 use Rattle.gfx_types.specs.declared.frame.Frame.{Frame}
 use Rattle.gfx_model.specs.Events.{Event}
 use Rattle.gfx_model.specs.Spelling.{HasSpelling, header}
-use Rattle.gfx_model.specs.Blocks.{AreBlocks, Position, first_position, next_position}
+use Rattle.gfx_model.specs.Blocks.{Position, first_position, next_position}
 use Rattle.gfx_model.specs.Blocks.End.{clean}
 use Rattle.gfx_model.specs.History.{onto, is_valid}
 use Rattle.gfx_model.specs.Frames.{frames}
-use Rattle.gfx_model.specs.Meaning.{Judged, Means, RangeEnd, events_onto, has_frame}
+use Rattle.gfx_model.specs.Meaning.{Judged, judge, Means, RangeEnd, events_onto}
 use Rattle.gfx_model.specs.Trimmed.{file_of}
 use Rattle.gfx_model.proofs.Lists.{all_along}
 use Rattle.gfx_grammar.specs.Framing.{Part, CanBeWritten, placed, made_part, file_parts}
@@ -24,11 +22,11 @@ use Rattle.gfx_trim_law.proofs.Prefix.{judge-valid}
 use Rattle.gfx_trim_law.proofs.Bytes.{file_bytes}
 use Rattle.gfx_make.specs.Made.{made, made_file, blocks}
 use Rattle.gfx_make.specs.Shown.{shown_from}
-use Rattle.gfx_make.specs.Laws.{MadeIsRead, MadeIsCounted, MadeIsMeant, MadeHasRange, MadeIsTrimmed}
+use Rattle.gfx_make.specs.Laws.{MadeIsRead, MadeIsCounted, MadeIsJudged, MadeIsMeant, MadeHasRange, MadeIsTrimmed}
 use Rattle.gfx_make.proofs.Valid.{made_is_valid}
 use Rattle.gfx_make.proofs.Counting.{made_length}
 use Rattle.gfx_make.proofs.Shows.{made_shows}
-use Rattle.gfx_make.proofs.Kept.{shown_to, range_shown}
+use Rattle.gfx_make.proofs.Kept.{shown_to, range_shown, is_there}
 use Rattle.gfx_make.proofs.Writable.{made_writable}
 
 module _ (n : ℕ) where
@@ -67,29 +65,23 @@ made_is_counted n low =
     let parts = map (made_part 1) (made n) in
     ap (λ (b : Blocks). length b.items) (made_is_read n low) ∙ length-placed (first_position (header 1)) parts ∙ length-map (made n) (made_part 1) ∙ made_length n
 
-pub made_is_meant : MadeIsMeant
-made_is_meant n low =
+pub made_is_judged : MadeIsJudged
+made_is_judged n low =
     let ws = placed (first_position (header 1)) (map (made_part 1) (made n)) in
     let said : events_onto ws [] ≡ onto (made n) [] = said_onto (first_position (header 1)) (made n) [] in
-    let judged = judge-valid ws [] clean (ap is_valid said ∙ made_is_valid n low) in
-    record {
-      blocks = ws;
-      blocks_end = clean;
-      are = subst (λ (b : Blocks). AreBlocks (made_file n) b.items b.end) (made_is_read n low) (blocks_are_computed (made_file n) (made_bytes n)).0;
-      shows = sym (ap (λ (j : Judged). frames j.history) judged ∙ ap frames said ∙ made_shows n low);
-      ends = sym (ap (λ (j : Judged). j.end) judged);
-    }
+    ap (λ (b : Blocks). judge [] b.items b.end) (made_is_read n low) ∙ judge-valid ws [] clean (ap is_valid said ∙ made_is_valid n low)
+    ∙ ap (λ h. record { history = h; end = clean }) said
+
+pub made_is_meant : MadeIsMeant
+made_is_meant n low = record {
+  blocks = (blocks_of (made_file n)).items;
+  blocks_end = (blocks_of (made_file n)).end;
+  are = (blocks_are_computed (made_file n) (made_bytes n)).0;
+  shows = sym (ap (λ (j : Judged). frames j.history) (made_is_judged n low) ∙ made_shows n low);
+  ends = sym (ap (λ (j : Judged). j.end) (made_is_judged n low));
+}
 
 -- ---- ranges
-
--- a frame of each number from a on is shown
-is_there : (n a k : ℕ) → a ≤ k → k < a + n → has_frame k (shown_from a n) ≡ true
-is_there zero a k low high = absurd (omega (arith, low, high))
-is_there (suc n) a k low high = by (a == k) refl (λ later. is_there n (a + 1) k later (omega (arith, high)))
-  where
-    by : (b : Bool) → (a == k) ≡ b → (a + 1 ≤ k → has_frame k (shown_from (a + 1) n) ≡ true) → (b || has_frame k (shown_from (a + 1) n)) ≡ true
-    by true e later = refl
-    by false e later = let other = eqb-false a k e in later (omega (arith, low, other))
 
 pub made_has_range : MadeHasRange
 made_has_range n first last low one ordered within = record {

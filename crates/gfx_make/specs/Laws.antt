@@ -5,7 +5,7 @@ use Rattle.gfx_model.specs.Blocks.{first_position}
 use Rattle.gfx_model.specs.Blocks.End.{clean}
 use Rattle.gfx_model.specs.History.{onto, is_valid}
 use Rattle.gfx_model.specs.Frames.{frames}
-use Rattle.gfx_model.specs.Meaning.{Means}
+use Rattle.gfx_model.specs.Meaning.{Means, judge}
 use Rattle.gfx_model.specs.Trimmed.{IsTrimmed}
 use Rattle.gfx_grammar.specs.Framing.{placed, made_part}
 use Rattle.gfx_grammar.specs.Splitting.{blocks_of}
@@ -28,6 +28,10 @@ MadeIsRead = (n : ℕ) → n ≤ 1000 → blocks_of (made_file n) ≡ record { i
 -- these blocks are 25, and 6 for each frame
 abbrev pub MadeIsCounted : Type 0
 MadeIsCounted = (n : ℕ) → n ≤ 1000 → length (blocks_of (made_file n)).items ≡ 25 + 6 * n
+
+-- they are judged without a fault
+abbrev pub MadeIsJudged : Type 0
+MadeIsJudged = (n : ℕ) → n ≤ 1000 → judge [] (blocks_of (made_file n)).items (blocks_of (made_file n)).end ≡ record { history = onto (made n) []; end = clean }
 
 -- so the file means its frames
 abbrev pub MadeIsMeant : Type 0

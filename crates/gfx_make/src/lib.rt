@@ -1,7 +1,7 @@
 //! The capture file that is made to try the program.
 #![tactic(auto)]
 
-ghost use Rattle.gfx_make.specs.Laws.{MadeHasRange, MadeIsCounted, MadeIsMeant, MadeIsRead, MadeIsTrimmed, MadeIsValid, MadeShows};
+ghost use Rattle.gfx_make.specs.Laws.{MadeHasRange, MadeIsCounted, MadeIsJudged, MadeIsMeant, MadeIsRead, MadeIsTrimmed, MadeIsValid, MadeShows};
 
 mod file;
 mod frame;
@@ -30,6 +30,11 @@ pub fn made_is_read()
 /// These blocks are 25, and 6 for each frame.
 pub fn made_is_counted()
     ensures { MadeIsCounted }
+{}
+
+/// They are judged without a fault.
+pub fn made_is_judged()
+    ensures { MadeIsJudged }
 {}
 
 /// The file means the frames of the capture.
