@@ -40,7 +40,7 @@ fn three_frames(alloc: Global) -> Result<Vec<u8>, Fail> {
     let reset = hex::decode(alloc, RESET)?;
     for _ in 0..2 {
         bytes.extend_from_slice(&reset)?;
-        bytes.extend_from_slice(&shown[FRAME..])?;
+        bytes.extend_from_slice(&shown[FRAME.min(shown.len())..])?;
     }
     Ok(bytes)
 }

@@ -1,0 +1,4 @@
+mod Picks
+mod Files
+mod Thirds
+mod Answering

@@ -1,0 +1,8 @@
+use Rattle.std.proofs.Common.{append_assoc, ◌∙◌}
+use Rattle.std.proofs.lemmas.Result.{IfOk-weaker}
+use Rattle.gfx_trial.specs.Text.{cut_line}
+use Rattle.gfx_trial.proofs.trial.cut_line.Goals as goal
+
+pub returns : goal.returns
+unfolding cut_line
+returns c = IfOk-weaker c.format.result _ _ (λ line is. is ∙ simp append_assoc) c.format.ensures.ok

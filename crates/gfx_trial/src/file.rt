@@ -1,0 +1,23 @@
+//! A file in memory, as a source.
+ghost use Rattle.std.specs.Prelude.{◌≡◌, Some};
+
+use gfx_io::{Failed, Source};
+
+/// A file in memory. No read of it fails.
+#[derive(Drop)]
+pub(crate) struct FileBytes<'a> {
+    pub rest: &'a [u8],
+}
+
+impl Source for FileBytes<'_> {
+    ghost left = { λ s. Some s.rest.now };
+
+    ghost faults = { λ _. 0 };
+
+    fn read(&mut self, into: &mut [u8]) -> Result<usize, Failed> {
+        let count = into.len().min(self.rest.len());
+        into[..count].copy_from_slice(&self.rest[..count]);
+        self.rest = &self.rest[count..];
+        Ok(count)
+    }
+}

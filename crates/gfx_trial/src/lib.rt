@@ -1,0 +1,12 @@
+//! A capture that is made, cut and replayed, and what was found.
+#![tactic(auto)]
+
+mod fault;
+mod file;
+mod middle;
+#[cfg(test)]
+mod tests;
+mod trial;
+
+pub use fault::TrialFault;
+pub use trial::write_trial;
