@@ -22,9 +22,8 @@ use Rattle.gfx_trim.specs.Keeps.{Keeps}
 use Rattle.gfx_trim.specs.Numbers.{IsInside}
 use Rattle.gfx_trim.specs.Trims.{history_in}
 use Rattle.gfx_trim.proofs.Numbers.{inside}
-use Rattle.gfx_make.proofs.Meaning.{has_number, in_range}
 use Rattle.gfx_trial.specs.Files.{HasFrames, count_of}
-use Rattle.gfx_trial.proofs.Picks.{asked_is, first_in_range, first_number, has_more, last_is, numbers, picked_again}
+use Rattle.gfx_trial.proofs.Picks.{asked_is, first_in_range, first_number, has_more, has_number, in_range, last_is, numbers, picked_again}
 
 -- what a file means is what is computed
 pub means_so : (bytes : List ℕ) (shown : List Frame) (end : End) → AreBytes bytes → Means bytes shown end → (frames_in bytes ≡ shown) × (end_of bytes ≡ end)

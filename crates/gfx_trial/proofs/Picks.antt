@@ -2,7 +2,7 @@
 use Rattle.std.proofs.Common.{◌≡◌, ◌≤◌, ◌<◌, ◌+◌, ◌-◌, ◌==◌, ◌||◌, ◌&&◌, ℕ, zero, suc, Bool, true, false, cond, List, [], ◌∷◌, length, get_or, map, refl, sym, ap, ◌∙◌, arith}
 use Rattle.std.specs.Prelude.{nat_le, unwrap_or}
 use Rattle.std.specs.List.{filter, list_all, list_any, range_with_len}
-use Rattle.std.proofs.lemmas.Bool.{le-leb, lt-leb}
+use Rattle.std.proofs.lemmas.Bool.{eqb-false, le-leb, lt-leb}
 use Rattle.gfx_types.specs.declared.frame.Frame.{Frame}
 use Rattle.gfx_model.specs.Meaning.{frames_to, has_frame}
 use Rattle.gfx_trim_law.specs.Law.{frames_from}
@@ -138,3 +138,17 @@ asked_is a b fs low =
 
 pub last_is : (a b : ℕ) (fs : List Frame) → unwrap_or (first_of fs) 0 ≤ a → has_last (Between a b) fs ≡ has_frame b fs
 last_is a b fs low = ap (λ t. list_any (λ (f : Frame). t && f.number == b) fs) (le-leb (unwrap_or (first_of fs) 0) a low)
+
+-- each number of a range is in it
+pub in_range : (n a k : ℕ) → a ≤ k → k < a + n → list_any (λ m. m == k) (range_with_len a n) ≡ true
+in_range zero a k low high = absurd (omega (arith, low, high))
+in_range (suc n) a k low high = by (a == k) refl (λ later. in_range n (a + 1) k later (omega (arith, high)))
+  where
+    by : (b : Bool) → (a == k) ≡ b → (a + 1 ≤ k → list_any (λ m. m == k) (range_with_len (a + 1) n) ≡ true) → (b || list_any (λ m. m == k) (range_with_len (a + 1) n)) ≡ true
+    by true e later = refl
+    by false e later = let other = eqb-false a k e in later (omega (arith, low, other))
+
+-- a frame whose number is among those of the frames
+pub has_number : (fs : List Frame) (k : ℕ) → list_any (λ m. m == k) (map (λ (f : Frame). f.number) fs) ≡ has_frame k fs
+has_number [] k = refl
+has_number (f ∷ fs) k = ap (λ b. (f.number == k) || b) (has_number fs k)
