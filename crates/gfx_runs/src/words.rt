@@ -54,10 +54,7 @@ const OTHERS: [&[&str]; 20] = [
 ];
 
 /// Words of commands that are not built.
-const UNBUILT: [&[&str]; 2] = [
-    &["capture"],
-    &["capture", "--frames", "1-1"],
-];
+const UNBUILT: [&[&str]; 2] = [&["capture"], &["capture", "--frames", "1-1"]];
 
 #[test]
 fn words_outside_the_grammar_are_answered_by_the_usage_line(rt: HostRuntime) -> Result<(), Fail> {
