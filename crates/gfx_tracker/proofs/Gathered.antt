@@ -1,17 +1,18 @@
 -- What each step makes of all answers together.
 use Rattle.std.proofs.Common.{◌≡◌, ℕ, ◌==◌, Bool, true, false, ◌&&◌, List, [], ◌∷◌, ◌++◌, Option, Some, None, is_some, if◌then◌else◌, refl, ap, sym, subst, ◌∙◌, arith}
-use Rattle.std.proofs.lemmas.Bool.{and_parts}
+use Rattle.std.proofs.lemmas.Bool.{and_parts, both_ways, eqb-true}
 use Rattle.std.proofs.lemmas.Bool.Decides.{nat_tests}
+use Rattle.gfx_types.specs.declared.names.Kind.TheVariants as kind
 use Rattle.gfx_model.specs.Events.{Event}
 use Rattle.gfx_model.specs.Steps.{Step, Object, Detail}
 use Rattle.gfx_model.specs.Steps.Change.{set_layout}
 use Rattle.gfx_model.specs.Steps.Step.{creates, ends, binds, maps, unmaps, begins, records, finishes, resets, resets_pool, executed, signals, unsignals, acquires, gives_back, changes}
 use Rattle.gfx_model.specs.Questions as asked
 use Rattle.gfx_model.specs.Questions.{State, Buffer, new_buffer, is_kept, is_once, invalidated, passes, is_in_pool, goes_with, after_end}
-use Rattle.gfx_model.specs.Views.{View, view_of}
+use Rattle.gfx_model.specs.Views.{View, is_live, view_of}
 use Rattle.gfx_model.specs.Checks.{is_initial}
 use Rattle.gfx_model.specs.After.{after, is_gone, is_alive, buffer_after_end}
-use Rattle.gfx_tracker.specs.Gathered.{gathered, is_new, no_commands, IsPlain}
+use Rattle.gfx_tracker.specs.Gathered.{gathered, is_new, no_commands, is_command_buffer, IsPlain}
 
 -- ---- steps that leave buffers, frames and the section as they are, and that nothing ends or is created
 
@@ -56,8 +57,16 @@ quiet_gathered r q b n e s step quiet is = ap (λ (v : View). gathered v b n fal
 
 pub quiet_plain : (r q : View) (b : ℕ → Buffer) (step : Step) → IsQuiet step → q ≡ after r step → IsPlain r.live b → IsPlain q.live b
 quiet_plain r q b step quiet is p = record {
-  plain = λ x none. p.plain x (ap is_some (sym (quiet_live r step quiet x)) ∙ ap (λ (v : View). is_some (v.live x)) (sym is) ∙ none);
+  plain = λ x none. p.plain x (ap (passes is_command_buffer) (sym (quiet_live r step quiet x)) ∙ ap (λ (v : View). passes is_command_buffer (v.live x)) (sym is) ∙ none);
 }
+
+pub dead_not : (test : Object → Bool) (o : Option Object) → is_some o ≡ false → passes test o ≡ false
+dead_not test None none = refl
+dead_not test (Some o) none = absurd cc
+
+there_some : (test : Object → Bool) (o : Option Object) → passes test o ≡ true → is_some o ≡ true
+there_some test None there = absurd cc
+there_some test (Some o) there = refl
 
 -- ---- buffers that are as new ones
 
@@ -90,13 +99,13 @@ new_stays hit b e = ap (λ (b : Buffer). is_new (invalidated hit b)) (new_is b e
 
 -- ---- a new object
 
-pub made_plain : (r q : View) (b : ℕ → Buffer) (id p : ℕ) (d : Detail) → q ≡ after r (creates id p d) → IsPlain r.live b → IsPlain q.live b
+pub made_plain : (r q : View) (b : ℕ → Buffer) (id p : ℕ) (d : Detail) → q ≡ after r (creates id p d) → IsPlain r.live b → is_some (r.live id) ≡ false → IsPlain q.live b
 unfolding after
-made_plain r q b id p d is plain = record { plain = λ x none. by x (id == x) (ap (λ (v : View). is_some (v.live x)) (sym is) ∙ none) }
+made_plain r q b id p d is plain fresh = record { plain = λ x none. by x (id == x) refl (ap (λ (v : View). passes is_command_buffer (v.live x)) (sym is) ∙ none) }
   where
-    by : (x : ℕ) (t : Bool) → is_some (if t then Some (record { parent = p; detail = d }) else r.live x) ≡ false → is_new (b x) ≡ true
-    by x true none = absurd cc
-    by x false none = plain.plain x none
+    by : (x : ℕ) (t : Bool) → (id == x) ≡ t → passes is_command_buffer (if t then Some (record { parent = p; detail = d }) else r.live x) ≡ false → is_new (b x) ≡ true
+    by x true same none = subst (λ y. is_new (b y) ≡ true) (eqb-true id x same) (plain.plain id (dead_not _ (r.live id) fresh))
+    by x false other none = plain.plain x none
 
 made_same : (r : View) (b : ℕ → Buffer) (n : ℕ) (e : Bool) (s : Option ℕ) (id p : ℕ) (d : Detail) →
     gathered (after r (creates id p d)) (λ x. if id == x then new_buffer else b x) n false s ≡ after (gathered r b n e s) (creates id p d)
@@ -110,7 +119,7 @@ made_gathered r q b n e s id p d is plain none =
     ap (λ (v : View). gathered v b n false s) is ∙ ap (λ b. gathered (after r (creates id p d)) b n false s) buffers ∙ made_same r b n e s id p d
   where
     here : (x : ℕ) (t : Bool) → (id == x) ≡ t → b x ≡ (if t then new_buffer else b x)
-    here x true same = new_is (b x) (subst (λ y. is_new (b y) ≡ true) (let at : id ≡ x = grind (arith, nat_tests, same) in at) (plain.plain id none))
+    here x true same = new_is (b x) (subst (λ y. is_new (b y) ≡ true) (eqb-true id x same) (plain.plain id (dead_not _ (r.live id) none)))
     here x false other = refl
 
 -- ---- an object that ends
@@ -118,14 +127,14 @@ made_gathered r q b n e s id p d is plain none =
 pub ended_plain : (r q : View) (b c : ℕ → Buffer) (gone : ℕ) → q ≡ after r (ends gone) → IsPlain r.live b → c ≡ (λ x. if is_gone r gone x then new_buffer else buffer_after_end r gone (b x)) → IsPlain q.live c
 unfolding after
 ended_plain r q b c gone is plain buffers = record {
-  plain = λ x none. ap (λ (c : ℕ → Buffer). is_new (c x)) buffers ∙ by x (is_gone r gone x) refl (ap (λ (v : View). is_some (v.live x)) (sym is) ∙ none);
+  plain = λ x none. ap (λ (c : ℕ → Buffer). is_new (c x)) buffers ∙ by x (is_gone r gone x) refl (ap (λ (v : View). passes is_command_buffer (v.live x)) (sym is) ∙ none);
 }
   where
-    left : (x : ℕ) (o : Option Object) → passes (goes_with gone x) o ≡ false → is_some (after_end gone x o) ≡ is_some o
+    left : (x : ℕ) (o : Option Object) → passes (goes_with gone x) o ≡ false → passes is_command_buffer (after_end gone x o) ≡ passes is_command_buffer o
     left x None other = refl
-    left x (Some o) other = ap (λ t. is_some (if t then None else Some o)) other
+    left x (Some o) other = ap (λ t. passes is_command_buffer (if t then None else Some o)) other
 
-    by : (x : ℕ) (t : Bool) → is_gone r gone x ≡ t → is_some (after_end gone x (r.live x)) ≡ false → is_new (if t then new_buffer else buffer_after_end r gone (b x)) ≡ true
+    by : (x : ℕ) (t : Bool) → is_gone r gone x ≡ t → passes is_command_buffer (after_end gone x (r.live x)) ≡ false → is_new (if t then new_buffer else buffer_after_end r gone (b x)) ≡ true
     by x true same none = refl
     by x false other none = new_stays _ (b x) (plain.plain x (sym (left x (r.live x) other) ∙ none))
 
@@ -142,50 +151,48 @@ ended_gathered r q b c n e s gone is buffers =
 -- ---- buffers
 
 -- the answer at a live id, where it is this one
-at_alive : {X : Type 0} (r : View) (cb x : ℕ) → is_some (r.live cb) ≡ true → (now old : X) → (if cb == x then now else old) ≡ (if cb == x && is_alive r x then now else old)
+at_alive : {X : Type 0} (r : View) (cb x : ℕ) → is_live r kind.CommandBuffer cb ≡ true → (now old : X) → (if cb == x then now else old) ≡ (if cb == x && is_alive r x then now else old)
 at_alive r cb x live now old = by (cb == x) refl
   where
     by : (t : Bool) → (cb == x) ≡ t → (if t then now else old) ≡ (if t && is_alive r x then now else old)
-    by true same = ap (λ t. if t then now else old) (sym (subst (λ y. is_some (r.live y) ≡ true) (let at : cb ≡ x = grind (arith, nat_tests, same) in at) live))
+    by true same = ap (λ t. if t then now else old) (sym (subst (λ y. is_some (r.live y) ≡ true) (eqb-true cb x same) (there_some _ (r.live cb) live)))
     by false other = refl
 
--- what is live stays so, and so does what is not
-dead_differs : (r : View) (cb x : ℕ) → is_some (r.live cb) ≡ true → is_some (r.live x) ≡ false → (cb == x) ≡ false
-dead_differs r cb x live dead = by (cb == x) refl
+-- what is no live command buffer is another
+other_differs : (r : View) (cb x : ℕ) → is_live r kind.CommandBuffer cb ≡ true → is_live r kind.CommandBuffer x ≡ false → (cb == x) ≡ false
+other_differs r cb x live dead = by (cb == x) refl
   where
     by : (t : Bool) → (cb == x) ≡ t → t ≡ false
-    by true same =
-        let alive : is_some (r.live x) ≡ true = subst (λ y. is_some (r.live y) ≡ true) (let at : cb ≡ x = grind (arith, nat_tests, same) in at) live in
-        absurd (cc (alive, dead))
+    by true same = absurd (both_ways (is_live r kind.CommandBuffer x) dead (ap (is_live r kind.CommandBuffer) (sym (eqb-true cb x same)) ∙ live))
     by false other = refl
 
 module _ (r : View) (b c : ℕ → Buffer) (n : ℕ) (e : Bool) (s : Option ℕ) (plain : IsPlain r.live b) where
-  at_plain : (cb : ℕ) (now : Buffer) → is_some (r.live cb) ≡ true → ((x : ℕ) → c x ≡ (if cb == x then now else b x)) → IsPlain r.live c
-  at_plain cb now live is = record { plain = λ x dead. ap is_new (is x ∙ ap (λ t. if t then now else b x) (dead_differs r cb x live dead)) ∙ plain.plain x dead }
+  at_plain : (cb : ℕ) (now : Buffer) → is_live r kind.CommandBuffer cb ≡ true → ((x : ℕ) → c x ≡ (if cb == x then now else b x)) → IsPlain r.live c
+  at_plain cb now live is = record { plain = λ x dead. ap is_new (is x ∙ ap (λ t. if t then now else b x) (other_differs r cb x live dead)) ∙ plain.plain x dead }
 
-  pub begun_plain : (cb flags : ℕ) → is_some (r.live cb) ≡ true → c ≡ (λ x. if cb == x then record { state = State.recording; flags = flags; commands = [] } else b x) → IsPlain r.live c
+  pub begun_plain : (cb flags : ℕ) → is_live r kind.CommandBuffer cb ≡ true → c ≡ (λ x. if cb == x then record { state = State.recording; flags = flags; commands = [] } else b x) → IsPlain r.live c
   begun_plain cb flags live is = at_plain cb _ live (λ x. ap (λ (c : ℕ → Buffer). c x) is)
 
-  pub begun_gathered : (cb flags : ℕ) → is_some (r.live cb) ≡ true → c ≡ (λ x. if cb == x then record { state = State.recording; flags = flags; commands = [] } else b x) →
+  pub begun_gathered : (cb flags : ℕ) → is_live r kind.CommandBuffer cb ≡ true → c ≡ (λ x. if cb == x then record { state = State.recording; flags = flags; commands = [] } else b x) →
       gathered r c n false s ≡ after (gathered r b n e s) (begins cb flags)
   unfolding after
   begun_gathered cb flags live is = λ j. gathered r (λ x. (ap (λ (c : ℕ → Buffer). c x) is ∙ at_alive r cb x live _ _) j) n false s
 
-  at_each : (cb : ℕ) (f : Buffer → Buffer) → is_some (r.live cb) ≡ true → ((x : ℕ) → c x ≡ (if cb == x then f (b x) else b x)) → IsPlain r.live c
-  at_each cb f live is = record { plain = λ x dead. ap is_new (is x ∙ ap (λ t. if t then f (b x) else b x) (dead_differs r cb x live dead)) ∙ plain.plain x dead }
+  at_each : (cb : ℕ) (f : Buffer → Buffer) → is_live r kind.CommandBuffer cb ≡ true → ((x : ℕ) → c x ≡ (if cb == x then f (b x) else b x)) → IsPlain r.live c
+  at_each cb f live is = record { plain = λ x dead. ap is_new (is x ∙ ap (λ t. if t then f (b x) else b x) (other_differs r cb x live dead)) ∙ plain.plain x dead }
 
-  pub recorded_plain : (cb : ℕ) (command : Event) → is_some (r.live cb) ≡ true → c ≡ (λ x. if cb == x then record (b x) { commands = (b x).commands ++ command ∷ [] } else b x) → IsPlain r.live c
+  pub recorded_plain : (cb : ℕ) (command : Event) → is_live r kind.CommandBuffer cb ≡ true → c ≡ (λ x. if cb == x then record (b x) { commands = (b x).commands ++ command ∷ [] } else b x) → IsPlain r.live c
   recorded_plain cb command live is = at_each cb (λ b. record b { commands = b.commands ++ command ∷ [] }) live (λ x. ap (λ (c : ℕ → Buffer). c x) is)
 
-  pub recorded_gathered : (cb : ℕ) (command : Event) → is_some (r.live cb) ≡ true → c ≡ (λ x. if cb == x then record (b x) { commands = (b x).commands ++ command ∷ [] } else b x) →
+  pub recorded_gathered : (cb : ℕ) (command : Event) → is_live r kind.CommandBuffer cb ≡ true → c ≡ (λ x. if cb == x then record (b x) { commands = (b x).commands ++ command ∷ [] } else b x) →
       gathered r c n false s ≡ after (gathered r b n e s) (records cb command)
   unfolding after
   recorded_gathered cb command live is = λ j. gathered r (λ x. (ap (λ (c : ℕ → Buffer). c x) is ∙ at_alive r cb x live _ _) j) n false s
 
-  pub finished_plain : (cb : ℕ) → is_some (r.live cb) ≡ true → c ≡ (λ x. if cb == x then record (b x) { state = State.executable } else b x) → IsPlain r.live c
+  pub finished_plain : (cb : ℕ) → is_live r kind.CommandBuffer cb ≡ true → c ≡ (λ x. if cb == x then record (b x) { state = State.executable } else b x) → IsPlain r.live c
   finished_plain cb live is = at_each cb (λ b. record b { state = State.executable }) live (λ x. ap (λ (c : ℕ → Buffer). c x) is)
 
-  pub finished_gathered : (cb : ℕ) → is_some (r.live cb) ≡ true → c ≡ (λ x. if cb == x then record (b x) { state = State.executable } else b x) →
+  pub finished_gathered : (cb : ℕ) → is_live r kind.CommandBuffer cb ≡ true → c ≡ (λ x. if cb == x then record (b x) { state = State.executable } else b x) →
       gathered r c n false s ≡ after (gathered r b n e s) (finishes cb)
   unfolding after
   finished_gathered cb live is = λ j. gathered r (λ x. (ap (λ (c : ℕ → Buffer). c x) is ∙ at_alive r cb x live _ _) j) n false s

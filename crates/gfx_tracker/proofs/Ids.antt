@@ -12,7 +12,7 @@ use Rattle.gfx_objects.specs.Object.{made}
 use Rattle.gfx_objects.specs.Objects.{Kept, answers}
 use Rattle.gfx_commands.specs.Recordings.{HoldsKept}
 use Rattle.gfx_tracker.specs.Gathered.{IsPlain}
-use Rattle.gfx_tracker.proofs.Gathered.{new_not_kept}
+use Rattle.gfx_tracker.proofs.Gathered.{dead_not, new_not_kept}
 
 among : (es : List (ℕ × Object)) (x : ℕ) → is_some (map.find nat_cmp x es) ≡ true → is_among x (each (λ e. e.0) es) ≡ true
 among [] x some = some
@@ -31,4 +31,4 @@ kept_among k b plain cb kept = live_among k cb (by (is_some ((answers k).live cb
   where
     by : (t : Bool) → is_some ((answers k).live cb) ≡ t → is_some ((answers k).live cb) ≡ true
     by true is = is
-    by false is = let gone = new_not_kept (b cb) (plain.plain cb is) in absurd (cc (gone, kept))
+    by false is = let gone = new_not_kept (b cb) (plain.plain cb (dead_not _ ((answers k).live cb) is)) in absurd (cc (gone, kept))

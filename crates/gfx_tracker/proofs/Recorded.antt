@@ -13,7 +13,7 @@ use Rattle.gfx_model.specs.Events.Event.{CmdPipelineBarrier, CmdFillBuffer, CmdU
 use Rattle.gfx_model.specs.Spelling.{spelling}
 use Rattle.gfx_model.specs.Questions.{is_kept}
 use Rattle.gfx_model.specs.Steps.Step.{records}
-use Rattle.gfx_model.specs.Views.{View, commands_kept, bytes_kept, commands_in, bytes_in}
+use Rattle.gfx_model.specs.Views.{View, is_live, commands_kept, bytes_kept, commands_in, bytes_in}
 use Rattle.gfx_model.specs.Checks.{Check, broken, is_recording, is_among, is_distinct}
 use Rattle.gfx_model.specs.Checks.Check.{live, recording, fits}
 use Rattle.gfx_model.specs.Table.{place_of, row_of, checks_of, divides}
@@ -32,7 +32,7 @@ use Rattle.gfx_commands.specs.Recordings.{buffers, commands_total, bytes_total, 
 use Rattle.gfx_commands.proofs.Counting.{commands_among, bytes_among}
 use Rattle.gfx_tracker.specs.Items.{items_in}
 use Rattle.gfx_tracker.specs.Taking.{IsNext, after_event}
-use Rattle.gfx_tracker.proofs.Next.{live_some, after_one}
+use Rattle.gfx_tracker.proofs.Next.{is_live_by, after_one}
 
 pub recording_by : (v : View) (cb : ℕ) → Passes v (recording cb) → is_recording (v.buffer cb).state ≡ true
 unfolding broken
@@ -63,8 +63,8 @@ row_passes v c is next =
 front_passes : (v : View) (c : Event) → is_command c ≡ true → IsNext v c → AllByRecursion (Passes v) (front c)
 front_passes v c is next = all_before (Passes v) (front c) (fits (length (spelling 1 c)) ∷ []) (row_passes v c is next)
 
-pub command_live : (v : View) (c : Event) → is_command c ≡ true → IsNext v c → is_some (v.live (cb_of c)) ≡ true
-command_live v c is next = live_some v kind.CommandBuffer (cb_of c) (front_passes v c is next).0
+pub command_live : (v : View) (c : Event) → is_command c ≡ true → IsNext v c → is_live v kind.CommandBuffer (cb_of c) ≡ true
+command_live v c is next = is_live_by v kind.CommandBuffer (cb_of c) (front_passes v c is next).0
 
 pub command_recording : (v : View) (c : Event) → is_command c ≡ true → IsNext v c → is_recording (v.buffer (cb_of c)).state ≡ true
 command_recording v c is next = recording_by v (cb_of c) (front_passes v c is next).1.0

@@ -1,8 +1,9 @@
 -- All answers together: objects, what is recorded, frames and the section.
-use Rattle.std.specs.Prelude.{◌≡◌, ℕ, ◌==◌, ◌&&◌, Bool, true, false, List, [], ◌∷◌, Option, is_some}
+use Rattle.std.specs.Prelude.{◌≡◌, ℕ, ◌==◌, ◌&&◌, Bool, true, false, List, [], ◌∷◌, Option}
+use Rattle.gfx_types.specs.declared.names.Kind.TheVariants as kind
 use Rattle.gfx_model.specs.Events.{Event}
-use Rattle.gfx_model.specs.Steps.{Object}
-use Rattle.gfx_model.specs.Questions.{Buffer}
+use Rattle.gfx_model.specs.Steps.{Object, kind_of, kind_number}
+use Rattle.gfx_model.specs.Questions.{Buffer, passes}
 use Rattle.gfx_model.specs.Views.{View}
 use Rattle.gfx_model.specs.Checks.{is_initial}
 
@@ -19,6 +20,9 @@ no_commands (_ ∷ cs) = false
 abbrev pub is_new : Buffer → Bool
 is_new b = is_initial b.state && b.flags == 0 && no_commands b.commands
 
--- nothing is recorded under an id that is not live
+abbrev pub is_command_buffer : Object → Bool
+is_command_buffer o = kind_number (kind_of o.detail) == kind_number kind.CommandBuffer
+
+-- nothing is recorded under an id that is not of a live command buffer
 pub record IsPlain (live : ℕ → Option Object) (buffer : ℕ → Buffer) : Type 0 where
-  pub plain : (x : ℕ) → is_some (live x) ≡ false → is_new (buffer x) ≡ true
+  pub plain : (x : ℕ) → passes is_command_buffer (live x) ≡ false → is_new (buffer x) ≡ true

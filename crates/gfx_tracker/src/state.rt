@@ -178,7 +178,7 @@ impl State {
 
     /// Begins to record into a live command buffer. For want of memory all is as it was.
     pub(crate) fn begin(&mut self, cb: u64, flags: u32) -> Result<(), WantMemory>
-        requires { is_some ((state_answers self.old).live cb) ≡ true }
+        requires { view.is_live (state_answers self.old) kind.CommandBuffer cb ≡ true }
         ensures ok { OnOk result (state_answers self.new ≡ after (state_answers self.old) (begins cb flags)) }
         ensures err { OnErr result (state_answers self.new ≡ state_answers self.old) }
     {
@@ -189,7 +189,7 @@ impl State {
 
     /// Adds a command to a live buffer that is recording. For want of memory all is as it was.
     pub(crate) fn record(&mut self, cb: u64, call: &Call<'_>) -> Result<(), WantMemory>
-        requires live { is_some ((state_answers self.old).live cb) ≡ true }
+        requires live { view.is_live (state_answers self.old) kind.CommandBuffer cb ≡ true }
         requires recording { IsTrue (is_recording ((state_answers self.old).buffer cb).state) }
         requires spelled { HasSpelling 1 (event_of_call call.now) }
         requires few { commands_total self.old.recordings + 1 ≤ 2 ^ 20 }
@@ -204,7 +204,7 @@ impl State {
 
     /// Ends the recording of a live buffer.
     pub(crate) fn finish(&mut self, cb: u64)
-        requires live { is_some ((state_answers self.old).live cb) ≡ true }
+        requires live { view.is_live (state_answers self.old) kind.CommandBuffer cb ≡ true }
         requires recording { IsTrue (is_recording ((state_answers self.old).buffer cb).state) }
         ensures { state_answers self.new ≡ after (state_answers self.old) (finishes cb) }
     {

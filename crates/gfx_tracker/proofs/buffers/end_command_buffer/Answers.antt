@@ -7,7 +7,7 @@ use Rattle.gfx_model.specs.Table.{place_of, row_of, checks_of}
 use Rattle.gfx_model.specs.Effects.{effect_of}
 use Rattle.gfx_laws.proofs.NewObjects.{all_pass}
 use Rattle.gfx_tracker.specs.State.{state_answers}
-use Rattle.gfx_tracker.proofs.Next.{live_some, after_one}
+use Rattle.gfx_tracker.proofs.Next.{is_live_by, after_one}
 use Rattle.gfx_tracker.proofs.Recorded.{recording_by}
 use Rattle.gfx_tracker.proofs.buffers.end_command_buffer.Goals as goal
 
@@ -15,7 +15,7 @@ pub finish-requires-clause-live : goal.finish-requires-clause-live
 unfolding place_of row_of id_of
 finish-requires-clause-live c =
     let v = state_answers c.args.state.now in
-    live_some v kind.CommandBuffer c.args.cb (all_pass v (checks_of (EndCommandBuffer c.args.cb)) c.requires.passes).0
+    is_live_by v kind.CommandBuffer c.args.cb (all_pass v (checks_of (EndCommandBuffer c.args.cb)) c.requires.passes).0
 
 pub finish-requires-clause-recording : goal.finish-requires-clause-recording
 unfolding place_of row_of id_of

@@ -1,5 +1,7 @@
-use Rattle.std.proofs.Common.{◌≡◌, refl, subst, ap, ◌∙◌, is_some, OnOk}
+use Rattle.std.proofs.Common.{◌≡◌, refl, subst, ap, ◌∙◌, OnOk}
+use Rattle.gfx_types.specs.declared.names.Kind.TheVariants as kind
 use Rattle.gfx_model.specs.Events.{event_of_call}
+use Rattle.gfx_model.specs.Views.{is_live}
 use Rattle.gfx_model.specs.Checks.{is_recording}
 use Rattle.gfx_model.specs.Steps.Step.{records}
 use Rattle.gfx_model.specs.After.{after}
@@ -13,7 +15,7 @@ command_fits-requires-clause-few c = command_few (state_answers c.args.state.now
 pub record-requires-clause-live : goal.record-requires-clause-live
 record-requires-clause-live c =
     let v = state_answers c.args.state.now in
-    ap (λ cb. is_some (v.live cb)) c.command_buffer.ensures ∙ command_live v (event_of_call c.args.call.now) c.requires.command c.requires.next
+    ap (λ cb. is_live v kind.CommandBuffer cb) c.command_buffer.ensures ∙ command_live v (event_of_call c.args.call.now) c.requires.command c.requires.next
 
 pub record-requires-clause-recording : goal.record-requires-clause-recording
 record-requires-clause-recording c =

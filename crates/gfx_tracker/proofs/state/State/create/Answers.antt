@@ -7,7 +7,7 @@ use Rattle.gfx_tracker.proofs.state.State.create.Goals as goal
 pub invariant_of-self-2 : goal.invariant_of-self-2
 invariant_of-self-2 c =
     let s = c.args.self.now in
-    record { plain = made_plain (answers_of s.registry) (answers_of c.create.new.self) (buffers s.recordings) c.args.id c.args.parent (detail_of c.args.detail) c.in_ok-create.ensures.ok s.plain }
+    record { plain = made_plain (answers_of s.registry) (answers_of c.create.new.self) (buffers s.recordings) c.args.id c.args.parent (detail_of c.args.detail) c.in_ok-create.ensures.ok s.plain c.requires.may.fresh }
 
 pub returns-clause-ok : goal.returns-clause-ok
 returns-clause-ok c =
