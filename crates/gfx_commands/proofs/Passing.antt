@@ -6,10 +6,11 @@ use Rattle.std.specs.FinMap.{FinMap}
 use Rattle.std.proofs.lemmas.Bool.Decides.{nat_tests}
 use Rattle.gfx_table.specs.Slots.{least_above}
 use Rattle.gfx_table.specs.Rows.{least_above-higher}
-use Rattle.gfx_model.specs.Questions.{Buffer, new_buffer, passes, is_in_pool}
+use Rattle.gfx_model.specs.Questions.{Buffer, new_buffer, passes, invalidated, is_in_pool}
 use Rattle.gfx_model.specs.Views.{View}
 use Rattle.gfx_model.specs.After.{is_gone, buffer_after_end}
 use Rattle.gfx_commands.specs.declared.recording.Recording.{Recording}
+use Rattle.gfx_commands.specs.Recording.{names}
 use Rattle.gfx_commands.specs.Recordings.{buffers}
 use Rattle.gfx_commands.proofs.Buffers.{found}
 use Rattle.gfx_commands.proofs.Rising.{least_first, least_none}
@@ -64,11 +65,15 @@ module _ (change : ℕ → Buffer → Buffer) (stable : (x : ℕ) → change x n
             let above : after < x = grind (arith, nat_tests, e) in
             passed x ∙ ap (λ t. if t then change x (first x) else first x) e ∙ sym (unchanged x (least_none m after is x above) above)
 
--- ---- the two changes
+-- ---- the changes
 
 -- a pool that is reset
 abbrev pub pool_reset : View → ℕ → ℕ → Buffer → Buffer
 pool_reset v pool x b = if passes (is_in_pool pool) (v.live x) then new_buffer else b
+
+-- a resource whose users become invalid
+abbrev pub user_invalidated : ℕ → ℕ → Buffer → Buffer
+user_invalidated resource x b = invalidated (names resource b) b
 
 -- an object that ends
 abbrev pub end_of : View → ℕ → ℕ → Buffer → Buffer
@@ -80,6 +85,9 @@ reset_stable v pool x = cases (passes (is_in_pool pool) (v.live x))
     cases : (t : Bool) → (if t then new_buffer else new_buffer) ≡ new_buffer
     cases true = refl
     cases false = refl
+
+pub user_stable : (resource x : ℕ) → user_invalidated resource x new_buffer ≡ new_buffer
+user_stable resource x = refl
 
 pub end_stable : (v : View) (gone x : ℕ) → end_of v gone x new_buffer ≡ new_buffer
 end_stable v gone x = cases (is_gone v gone x)

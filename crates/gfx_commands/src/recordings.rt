@@ -17,7 +17,7 @@ ghost use Rattle.gfx_ops.specs.Laws.{WindowsEnd};
 ghost use Rattle.gfx_commands.specs.Runnable.{IsRunnable};
 ghost use Rattle.gfx_commands.specs.declared.recording.Recording.{Recording};
 ghost use Rattle.gfx_commands.specs.Recorded.{event_in, IsRecorded};
-ghost use Rattle.gfx_commands.specs.Recording.{state_of, buffer_of};
+ghost use Rattle.gfx_commands.specs.Recording.{state_of, buffer_of, names};
 ghost use Rattle.gfx_commands.specs.Uses.{IsIndex};
 ghost use Rattle.gfx_commands.specs.Layouts.{asked_in};
 ghost use Rattle.gfx_commands.specs.Recordings.{buffers, commands_total, bytes_total, HoldsKept};
@@ -224,9 +224,21 @@ impl Recordings {
         }
     }
 
+    /// Recording and executable buffers that name the resource become invalid.
+    pub fn invalidate_users(&mut self, resource: u64)
+        ensures { buffers self.new ≡ (λ x. invalidated (names resource (buffers self.old x)) (buffers self.old x)) }
+    {
+        self.invalidate_user(0, resource);
+        let mut after = 0;
+        'rows: while let Some(cb) = self.next(after) {
+            self.invalidate_user(cb, resource);
+            after = cb;
+        }
+    }
+
     /// What the end of an object makes of all buffers: those that go with it are as new ones, and those that name a
     /// resource which goes, or the memory under it, are invalid.
-    pub fn invalidate_users(&mut self, gone: u64, objects: &Objects)
+    pub fn end_object(&mut self, gone: u64, objects: &Objects)
         ensures { buffers self.new ≡ (λ x. if is_gone (answers objects.now) gone x then new_buffer else buffer_after_end (answers objects.now) gone (buffers self.old x)) }
     {
         self.end_one(0, gone, objects);
@@ -283,6 +295,26 @@ impl Recordings {
     {
         if is_in_pool(objects, pool, cb) {
             self.reset(cb);
+        }
+    }
+
+    // A buffer that names the resource becomes invalid.
+    fn invalidate_user(&mut self, cb: u64, resource: u64)
+        ensures { buffers self.new ≡ (λ x. if cb == x then invalidated (names resource (buffers self.old x)) (buffers self.old x) else buffers self.old x) }
+    {
+        if self.names(cb, resource) {
+            self.invalidate(cb);
+        }
+    }
+
+    // Whether a command of the buffer names the resource.
+    fn names(&self, cb: u64, resource: u64) -> bool
+        ensures names { result ≡ names resource (buffers self.now cb) }
+        ensures kept { result ≡ true → IsSome (map.get self.now cb) }
+    {
+        match self.rows.get(cb) {
+            Some(row) => row.commands.uses().names(resource),
+            None => false,
         }
     }
 

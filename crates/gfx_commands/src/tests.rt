@@ -195,10 +195,24 @@ fn a_pool_resets_all_its_buffers(rt: HostRuntime) -> Result<(), Fail> {
 }
 
 #[test]
+fn the_users_of_a_resource_become_invalid(rt: HostRuntime) -> Result<(), Fail> {
+    let mut recordings = three(rt.alloc())?;
+    recordings.begin(13, 0)?;
+    recordings.invalidate_users(9);
+    assert_eq!(rt; recordings.state(10), CbState::Invalid);
+    assert_eq!(rt; recordings.state(11), CbState::Invalid);
+    assert_eq!(rt; recordings.state(12), CbState::Executable);
+    assert_eq!(rt; recordings.state(13), CbState::Recording);
+    let (commands, bytes) = (1, 36);
+    assert_eq!(rt; recordings.totals(), Totals { commands, bytes });
+    Ok(())
+}
+
+#[test]
 fn freed_memory_invalidates_the_buffers_that_rest_on_it(rt: HostRuntime) -> Result<(), Fail> {
     let objects = with_bound(rt.alloc())?;
     let mut recordings = three(rt.alloc())?;
-    recordings.invalidate_users(3, &objects);
+    recordings.end_object(3, &objects);
     assert_eq!(rt; recordings.state(10), CbState::Invalid);
     assert_eq!(rt; recordings.state(11), CbState::Invalid);
     assert_eq!(rt; recordings.state(12), CbState::Executable);
@@ -212,7 +226,7 @@ fn freed_memory_invalidates_the_buffers_that_rest_on_it(rt: HostRuntime) -> Resu
 fn a_pool_takes_its_buffers_with_it(rt: HostRuntime) -> Result<(), Fail> {
     let objects = with_bound(rt.alloc())?;
     let mut recordings = three(rt.alloc())?;
-    recordings.invalidate_users(4, &objects);
+    recordings.end_object(4, &objects);
     assert_eq!(rt; recordings.state(10), CbState::Initial);
     assert_eq!(rt; recordings.state(11), CbState::Executable);
     assert_eq!(rt; recordings.state(12), CbState::Initial);

@@ -220,8 +220,8 @@ impl Uses {
         self.table.next_above(after)
     }
 
-    // Whether the resource is named.
-    fn names(&self, id: u64) -> bool
+    /// Whether the resource is named.
+    pub(crate) fn names(&self, id: u64) -> bool
         ensures { result ≡ is_some (finmap.get self.now.table.map id) }
     {
         self.table.get(id).is_some()

@@ -95,7 +95,7 @@ pub(crate) fn end(objects: &mut Objects, recordings: &mut Recordings, id: u64) -
     if objects.get(id).is_none() {
         return Err("not live".into());
     }
-    recordings.invalidate_users(id, objects);
+    recordings.end_object(id, objects);
     objects.remove(id);
     Ok(())
 }

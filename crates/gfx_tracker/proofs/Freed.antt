@@ -1,15 +1,17 @@
 -- Command buffers that are freed one after another: each is live at its turn.
-use Rattle.std.proofs.Common.{◌≡◌, ℕ, zero, suc, ◌==◌, ◌<◌, ◌≤◌, Bool, true, false, ◌&&◌, ◌||◌, List, [], ◌∷◌, length, take, map, get_or, Option, Some, None, is_some, if◌then◌else◌, refl, ap, sym, ◌∙◌, arith}
+use Rattle.std.proofs.Common.{◌≡◌, ℕ, zero, suc, ◌==◌, ◌<◌, ◌≤◌, Bool, true, false, ◌&&◌, ◌||◌, List, [], ◌∷◌, length, take, map, get_or, Option, Some, None, is_some, if◌then◌else◌, refl, ap, sym, subst, ◌∙◌, arith}
 use Rattle.std.specs.Prelude.{fold}
 use Rattle.std.specs.List.{AllByRecursion}
 use Rattle.std.specs.Option.{option_map_or}
+use Rattle.std.proofs.Math.Logic.{∥∥₁_elim}
+use Rattle.std.proofs.Props.{props}
 use Rattle.std.proofs.lemmas.Bool.{eqb-true, leb-true, not-true, or_parts}
 use Rattle.std.proofs.lemmas.List.{length-map}
 use Rattle.gfx_types.specs.declared.names.Kind.TheVariants as kind
 use Rattle.gfx_model.specs.Events.Event.{FreeCommandBuffers}
 use Rattle.gfx_model.specs.Spelling.{id_of}
 use Rattle.gfx_model.specs.Steps.{Object, kind_of, kind_number}
-use Rattle.gfx_model.specs.Steps.Step.{ends}
+use Rattle.gfx_model.specs.Steps.Step.{taken, ends}
 use Rattle.gfx_model.specs.Questions.{passes, is_owned, after_end}
 use Rattle.gfx_model.specs.Views.{View, is_live, parent_of}
 use Rattle.gfx_model.specs.Checks.{broken, is_among}
@@ -18,11 +20,16 @@ use Rattle.gfx_model.specs.Table.{place_of, row_of, checks_of, live_once}
 use Rattle.gfx_model.specs.Effects.{effect_of}
 use Rattle.gfx_model.specs.After.{after}
 use Rattle.gfx_model.proofs.Covered.{unless_none}
-use Rattle.gfx_laws.specs.Lawful.{Passes}
+use Rattle.gfx_laws.specs.Lawful.{IsLawful, Passes}
 use Rattle.gfx_laws.proofs.Lists.{all_before, all_behind}
 use Rattle.gfx_laws.proofs.NewObjects.{all_pass}
+use Rattle.gfx_laws.proofs.Ready.{AllReady, AllRoom}
+use Rattle.gfx_laws.proofs.LawfulSteps.{lawful_after}
+use Rattle.gfx_laws.proofs.EventReady.{event_ready}
+use Rattle.gfx_laws.proofs.EventRoom.{event_room}
 use Rattle.gfx_tracker.specs.Taking.{IsNext, after_event}
-use Rattle.gfx_tracker.proofs.Next.{is_live_by, live_some, after_some}
+use Rattle.gfx_tracker.proofs.LawfulEvents.{without_changes}
+use Rattle.gfx_tracker.proofs.Next.{absorbed, is_live_by, live_some, after_some}
 
 -- each of these is live when its turn to end comes
 abbrev pub AllLive : View → List ℕ → Type 0
@@ -96,6 +103,28 @@ unfolding place_of row_of id_of broken
 frees_some v device pool buffers next =
     let all = all_pass v (checks_of (FreeCommandBuffers device pool buffers)) next.passes in
     leb-true 1 (length buffers) (unless_none _ _ all.1.1.1.1.0)
+
+-- what is lawful stays so while they end
+ended_lawful : (v : View) (xs : List ℕ) (k : ℕ) → IsLawful v [] → AllReady v (map ends xs) → AllRoom v (map ends xs) → IsLawful (fold after v (map ends (take k xs))) []
+ended_lawful v [] zero h ready room = h
+ended_lawful v [] (suc k) h ready room = h
+ended_lawful v (x ∷ xs) zero h ready room = h
+ended_lawful v (x ∷ xs) (suc k) h ready room =
+    ended_lawful (after v (ends x)) xs k (without_changes (after v (ends x)) _ (lawful_after v (ends x) [] h ready.0 room.0)) ready.1 room.1
+
+from_first : (v : View) (xs : List ℕ) (k : ℕ) → IsLawful v [] → AllReady v (taken ∷ map ends xs) → AllRoom v (taken ∷ map ends xs) → IsLawful (fold after v (map ends (take k xs))) []
+from_first v [] zero h ready room = h
+from_first v [] (suc k) h ready room = h
+from_first v (x ∷ xs) zero h ready room = h
+from_first v (x ∷ xs) (suc k) h ready room =
+    subst (λ w. IsLawful (fold after w (map ends (take k xs))) []) (absorbed v (ends x))
+    (ended_lawful (after v taken) (x ∷ xs) (suc k) (without_changes (after v taken) _ (lawful_after v taken [] h ready.0 room.0)) ready.1 room.1)
+
+pub frees_lawful : (v : View) (device pool : ℕ) (buffers : List ℕ) (k : ℕ) → IsNext v (FreeCommandBuffers device pool buffers) → ∥ IsLawful (fold after v (map ends (take k buffers))) [] ∥₁
+unfolding effect_of
+frees_lawful v device pool buffers k next =
+    let e = FreeCommandBuffers device pool buffers in
+    ∥∥₁_elim next.lawful (hlevel props) (λ h. ∣ from_first v buffers k h (event_ready v [] h e next.passes) (event_room v e next.passes) ∣₁)
 
 pub after_freed : (v : View) (device pool : ℕ) (buffers : List ℕ) → IsNext v (FreeCommandBuffers device pool buffers) → fold after v (map ends buffers) ≡ after_event v (FreeCommandBuffers device pool buffers)
 unfolding effect_of

@@ -1,6 +1,7 @@
 pub mod Told
 pub mod Registered
 pub mod Gathered
+pub mod EndedUsers
 pub mod Next
 pub mod Fetched
 pub mod Seeking

@@ -34,7 +34,7 @@ use Rattle.gfx_tracker.specs.Taking.{after_event, IsNext, MayCreate}
 
 -- ---- an event of one step
 
-absorbed : (v : View) (s : Step) → after (after v taken) s ≡ after v s
+pub absorbed : (v : View) (s : Step) → after (after v taken) s ≡ after v s
 unfolding after
 absorbed v (changes (set_layout i l)) = refl
 absorbed v (changes _) = refl

@@ -5,9 +5,8 @@ use Rattle.std.specs.Option.{option_map_or}
 use Rattle.std.proofs.lemmas.List.{append-nil}
 use Rattle.std.proofs.lemmas.Grind.{flat_map-append}
 use Rattle.gfx_types.specs.declared.lists.Present.{Present}
-use Rattle.gfx_types.specs.declared.op.Op.{Op}
 use Rattle.gfx_model.specs.Events.{Event}
-use Rattle.gfx_model.specs.Events.Event.{GetDeviceQueue, AllocateCommandBuffers, FreeCommandBuffers, CreateFence, ResetFences, QueueSubmit, GetSwapchainImagesKHR, AcquireNextImageKHR, QueuePresentKHR, FillMemory, InitImage, SetSwapchainState, SetSemaphoreState}
+use Rattle.gfx_model.specs.Events.Event.{GetDeviceQueue, AllocateCommandBuffers, FreeCommandBuffers, CreateFence, ResetFences, QueueSubmit, GetSwapchainImagesKHR, AcquireNextImageKHR, QueuePresentKHR, InitImage, SetSwapchainState, SetSemaphoreState}
 use Rattle.gfx_model.specs.Steps.{Step, Change, Object, Detail}
 use Rattle.gfx_model.specs.Steps.Detail.{a_queue, a_command_buffer, an_image}
 use Rattle.gfx_model.specs.Steps.Change.{set_layout}

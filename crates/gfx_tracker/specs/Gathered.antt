@@ -6,6 +6,7 @@ use Rattle.gfx_model.specs.Steps.{Object, kind_of, kind_number}
 use Rattle.gfx_model.specs.Questions.{Buffer, passes}
 use Rattle.gfx_model.specs.Views.{View}
 use Rattle.gfx_model.specs.Checks.{is_initial}
+use Rattle.gfx_laws.specs.Lawful.{base, LawfulObjects, LawfulBuffers}
 
 -- the answers on objects, with those on buffers, frames and the section
 abbrev pub gathered : View → (ℕ → Buffer) → ℕ → Bool → Option ℕ → View
@@ -26,3 +27,8 @@ is_command_buffer o = kind_number (kind_of o.detail) == kind_number kind.Command
 -- nothing is recorded under an id that is not of a live command buffer
 pub record IsPlain (live : ℕ → Option Object) (buffer : ℕ → Buffer) : Type 0 where
   pub plain : (x : ℕ) → passes is_command_buffer (live x) ≡ false → is_new (buffer x) ≡ true
+
+-- objects and what is recorded are as after some valid history
+pub record LawfulUsers (v : View) (buffer : ℕ → Buffer) : Type 0 where
+  pub objects : LawfulObjects (base v)
+  pub buffers : LawfulBuffers (base v) buffer

@@ -31,6 +31,11 @@ pub record MayCreate (v : View) (id : ℕ) (d : Detail) : Type 0 where
   pub room : object_count v < 65536
   pub bytes : live_bytes v + detail_bytes d ≤ 2 ^ 28
 
+-- a live object, after some valid history
+pub record MayEnd (v : View) (id : ℕ) : Type 0 where
+  pub live : is_some (v.live id) ≡ true
+  pub lawful : ∥ IsLawful v [] ∥₁
+
 -- a live fence or semaphore
 abbrev pub HasSignal : View → ℕ → Type 0
 HasSignal v x = passes (λ o. has_signal o.detail) (v.live x) ≡ true

@@ -1,26 +1,26 @@
 //! What stands after the effects of a capture: objects, recordings, the next frame and the section.
-ghost use Rattle.std.specs.Prelude.{◌≡◌, ◌+◌, ◌<◌, ◌≤◌, ◌^◌, ◌==◌, ◌&&◌, ◌||◌, [], true, false, None, IsTrue, is_some, length, OnOk, OnErr};
+ghost use Rattle.std.specs.Prelude.{◌≡◌, ◌+◌, ◌<◌, ◌≤◌, ◌^◌, ◌==◌, ◌&&◌, ◌||◌, [], true, false, None, IsTrue, is_some, length, if◌then◌else◌, OnOk, OnErr};
 ghost use Rattle.gfx_types.specs.declared.names.Kind.TheVariants as kind;
 ghost use Rattle.gfx_model.specs.Steps.Step.{taken, begins_section, ends_section, creates, ends, binds, maps, unmaps, begins, records, finishes, resets, resets_pool, executed, signals, unsignals, acquires, gives_back, changes, presents};
 ghost use Rattle.gfx_model.specs.Steps.Change.{set_layout};
 ghost use Rattle.gfx_model.specs.Events.{event_of_call};
 ghost use Rattle.gfx_model.specs.Spelling.{HasSpelling, spelling};
-ghost use Rattle.gfx_model.specs.Questions.{passes};
+ghost use Rattle.gfx_model.specs.Questions.{passes, new_buffer};
 ghost use Rattle.gfx_model.specs.Checks.{is_recording};
 ghost use Rattle.gfx_model.specs.Views as view;
-ghost use Rattle.gfx_model.specs.After.{after};
+ghost use Rattle.gfx_model.specs.After.{after, is_gone, buffer_after_end};
 ghost use Rattle.gfx_objects.specs.Object.{detail_of, IsNew};
 ghost use Rattle.gfx_objects.specs.Objects.{answers};
 ghost use Rattle.gfx_commands.specs.Recordings.{buffers, commands_total, bytes_total};
 ghost use Rattle.gfx_laws.specs.Lawful.{has_signal};
 ghost use Rattle.gfx_tracker.specs.Registered.{images_of};
-ghost use Rattle.gfx_tracker.specs.Gathered.{IsPlain};
-ghost use Rattle.gfx_tracker.specs.Taking.{MayCreate};
+ghost use Rattle.gfx_tracker.specs.Gathered.{IsPlain, LawfulUsers};
+ghost use Rattle.gfx_tracker.specs.Taking.{MayCreate, MayEnd};
 
 use crate::registry::Registry;
 use gfx_commands::Recordings;
-use gfx_objects::Detail;
-use gfx_types::{Call, WantMemory};
+use gfx_objects::{Detail, Objects};
+use gfx_types::{Call, Kind, WantMemory};
 use std::alloc::Global;
 
 /// What stands after the effects of a capture.
@@ -72,10 +72,11 @@ impl State {
 
     /// Ends a live object, with what it owns: buffers that name a resource which goes become invalid.
     pub(crate) fn end(&mut self, id: u64)
-        requires { is_some ((state_answers self.old).live id) ≡ true }
+        requires { MayEnd (state_answers self.old) id }
         ensures { state_answers self.new ≡ after (state_answers self.old) (ends id) }
     {
-        self.recordings.invalidate_users(id, &self.registry.objects);
+        let kind = kind_at(&self.registry.objects, id);
+        end_users(&mut self.recordings, &self.registry.objects, id, kind);
         self.registry.end(id);
         self.is_empty = false;
     }
@@ -260,5 +261,40 @@ impl State {
     {
         self.next_frame += 1;
         self.is_empty = false;
+    }
+}
+
+// The kind of a live object.
+fn kind_at(objects: &Objects, id: u64) -> Kind
+    requires { is_some ((answers objects.now).live id) ≡ true }
+    ensures { view.is_live (answers objects.now) result id ≡ true }
+{
+    let Some(object) = objects.get(id) else {
+        unreachable!()
+    };
+    object.kind
+}
+
+// What the end of a live object makes of the command buffers. A memory and a swapchain take resources with them; of
+// other objects commands name buffers and images alone, and no buffer is visited where a fence or a device ends.
+fn end_users(recordings: &mut Recordings, objects: &Objects, gone: u64, kind: Kind)
+    requires kind { view.is_live (answers objects.now) kind gone ≡ true }
+    requires plain { IsPlain (answers objects.now).live (buffers recordings.old) }
+    requires lawful { ∥ LawfulUsers (answers objects.now) (buffers recordings.old) ∥₁ }
+    ensures { buffers recordings.new ≡ (λ x. if is_gone (answers objects.now) gone x then new_buffer else buffer_after_end (answers objects.now) gone (buffers recordings.old x)) }
+{
+    match kind {
+        Kind::Memory => recordings.end_object(gone, objects),
+        Kind::Swapchain => recordings.end_object(gone, objects),
+        Kind::Buffer => recordings.invalidate_users(gone),
+        Kind::Image => recordings.invalidate_users(gone),
+        Kind::Pool => recordings.reset_pool(gone, objects),
+        Kind::CommandBuffer => recordings.reset(gone),
+        Kind::Instance => {}
+        Kind::Surface => {}
+        Kind::Device => {}
+        Kind::Queue => {}
+        Kind::Fence => {}
+        Kind::Semaphore => {}
     }
 }

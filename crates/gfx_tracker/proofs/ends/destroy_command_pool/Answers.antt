@@ -14,7 +14,7 @@ pub end-requires : goal.end-requires
 unfolding place_of row_of id_of
 end-requires c =
     let v = state_answers c.args.state.now in
-    live_some v kind.Pool c.args.pool (all_pass v (checks_of (DestroyCommandPool c.args._device c.args.pool)) c.requires.passes).1.1.0
+    record { live = live_some v kind.Pool c.args.pool (all_pass v (checks_of (DestroyCommandPool c.args._device c.args.pool)) c.requires.passes).1.1.0; lawful = c.requires.lawful }
 
 pub returns : goal.returns
 unfolding effect_of

@@ -1,4 +1,4 @@
-use Rattle.std.proofs.Common.{◌≡◌, Bool, true, false, ℕ, List, [], ◌++◌, refl, sym, ap, ◌∙◌}
+use Rattle.std.proofs.Common.{◌≡◌, Bool, true, false, ℕ, [], ◌++◌, refl, sym, ap, ◌∙◌}
 use Rattle.gfx_types.specs.declared.effect.Effect.TheVariants as effect
 use Rattle.gfx_model.specs.Events.{event_of}
 use Rattle.gfx_model.specs.Views.{View}

@@ -1,8 +1,7 @@
 use Rattle.std.proofs.Common.{◌<◌, ◌^◌, sym, arith}
 use Rattle.gfx_table.specs.Rows.{least_above-higher}
-use Rattle.gfx_objects.specs.Objects.{answers}
 use Rattle.gfx_commands.specs.Recordings.{buffers}
-use Rattle.gfx_commands.proofs.Passing.{end_of, end_stable, one_more, at_end}
+use Rattle.gfx_commands.proofs.Passing.{user_invalidated, user_stable, one_more, at_end}
 use Rattle.gfx_commands.proofs.recordings.Recordings.invalidate_users.Goals as goal
 
 pub rows-smaller : goal.rows-smaller
@@ -13,11 +12,9 @@ rows-smaller c =
 
 pub rows-preserved : goal.rows-preserved
 rows-preserved c =
-    let v = answers c.args.objects.now in
-    one_more (end_of v c.args.gone) (end_stable v c.args.gone) (buffers c.args.self.now) c.rows.self c.rows.after c.rows.invariant c.in-Some.cb c.end_one-in-Some.new.self
-    (sym c.in-Some.ensures) c.end_one-in-Some.ensures
+    one_more (user_invalidated c.args.resource) (user_stable c.args.resource) (buffers c.args.self.now) c.rows.self c.rows.after c.rows.invariant c.in-Some.cb c.invalidate_user-in-Some.new.self
+    (sym c.in-Some.ensures) c.invalidate_user-in-Some.ensures
 
 pub returns : goal.returns
 returns c =
-    let v = answers c.args.objects.now in
-    at_end (end_of v c.args.gone) (end_stable v c.args.gone) (buffers c.args.self.now) c.rows.self c.rows.after c.rows.invariant (sym c.in_default.ensures)
+    at_end (user_invalidated c.args.resource) (user_stable c.args.resource) (buffers c.args.self.now) c.rows.self c.rows.after c.rows.invariant (sym c.in_default.ensures)
