@@ -2,6 +2,7 @@
 """Prints how fast a recording is replayed or trimmed, and the most memory that it takes.
 
     run.py replay [PROGRAM]     all of 60 and of 1,000 frames, beside `sha256sum` of as many bytes as these frames have
+    run.py ends [PROGRAM]       the ends of fences, of buffers and of command buffers, beside 4,096 and 16,384 begun command buffers
     run.py trim [PROGRAM]       the middle third of 60, of 1,000 and of 5,000 frames, beside `cat` of the whole file
 
 The frames are of 640 by 480 texels, and a thirtieth of each is new. The recordings are made in /tmp/gfxcap_replay and stay
@@ -135,6 +136,65 @@ def memory(words, path):
         return int(lines.read())
 
 
+def begun(count):
+    """So many command buffers, each of which fills a part of one buffer."""
+    ids = list(range(1000, 1000 + count))
+    blocks = [
+        call("CreateBuffer", device=3, buffer=16, size=FRAME, usage=2),
+        call("BindBufferMemory", device=3, buffer=16, memory=8, offset=0),
+        call("AllocateCommandBuffers", device=3, pool=10, buffers=ids),
+    ]
+    for cb in ids:
+        blocks.append(call("BeginCommandBuffer", cb=cb, flags=0))
+        blocks.append(call("CmdFillBuffer", cb=cb, buffer=16, offset=0, size=16, word=1))
+        blocks.append(call("EndCommandBuffer", cb=cb))
+    return blocks
+
+
+def fences(count):
+    """So many fences that are created and end."""
+    ids = range(1 << 20, (1 << 20) + count)
+    return [block for fence in ids for block in (call("CreateFence", device=3, fence=fence, flags=0), call("DestroyFence", device=3, fence=fence))]
+
+
+def buffers(count):
+    """So many buffers that are created and end."""
+    ids = range(1 << 20, (1 << 20) + count)
+    return [
+        block
+        for buffer in ids
+        for block in (
+            call("CreateBuffer", device=3, buffer=buffer, size=16, usage=2),
+            call("DestroyBuffer", device=3, buffer=buffer),
+        )
+    ]
+
+
+def freed(count):
+    """The command buffers of `begun` in one call."""
+    return [call("FreeCommandBuffers", device=3, pool=10, buffers=list(range(1000, 1000 + count)))]
+
+
+def seconds(program, blocks):
+    """How long a recording of these blocks and one frame takes to be replayed."""
+    path = os.path.join(PLACE, "ends.gfxcap")
+    with open(path, "wb") as out:
+        out.write(header() + b"".join(objects() + recorded(11, 6) + blocks + frame(1)))
+    return min(run([program, "replay"], path) for _ in range(RUNS))
+
+
+def ends(program):
+    for count in (4096, 16384):
+        before = seconds(program, begun(count))
+        for title, blocks, number in (
+            ("a fence", fences(10000), 10000),
+            ("a buffer", buffers(1000), 1000),
+            ("a command buffer", freed(count), count),
+        ):
+            took = seconds(program, begun(count) + blocks) - before
+            print(f"{count:6} begun   {title:16} {took / number * 1e6:8.1f} us", flush=True)
+
+
 def compare(words, path, other, other_path, most):
     took = min(run(words, path) for _ in range(RUNS))
     other_took = min(run(other, other_path) for _ in range(RUNS))
@@ -149,11 +209,14 @@ def compare(words, path, other, other_path, most):
 def main():
     os.makedirs(PLACE, exist_ok=True)
     words = sys.argv[1:] or ["replay"]
-    if words[0] not in ("replay", "trim") or len(words) > 2:
+    if words[0] not in ("replay", "ends", "trim") or len(words) > 2:
         sys.exit(__doc__)
     program = words[1] if len(words) == 2 else os.path.join(TOP, "crates", "gfxcap", "out", "gfxcap")
     if len(words) == 1:
         run([os.path.join(TOP, "gfxcap"), "info"], os.path.join(TOP, "examples", "first.gfxcap"))
+    if words[0] == "ends":
+        ends(program)
+        return
     for frames in (60, 1000) if words[0] == "replay" else (60, 1000, 5000):
         path = recording(program, frames)
         print(f"{frames:5} frames   ", end="", flush=True)
