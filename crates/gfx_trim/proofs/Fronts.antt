@@ -21,7 +21,7 @@ use Rattle.gfx_trim.specs.Phases.{IsWaiting}
 use Rattle.gfx_trim.proofs.Appending.{appends_then, part_of, part_then}
 use Rattle.gfx_trim.proofs.Steps.{waiting_history}
 use Rattle.gfx_trim.proofs.Stored.{replay_places, replay_stands, replay_stored}
-use Rattle.gfx_trim.proofs.Versions.{section_same}
+use Rattle.gfx_state.proofs.Versions.{section_in_versions}
 
 -- ---- what the section asks for
 
@@ -38,7 +38,7 @@ stored_for r t is h s = subst (λ (t : Tracker). IsStored (answers t) (bytes_of 
 
 opening_is : (m : ℕ) (h : List Event) (first : ℕ) (kept : List ℕ) → is_valid h ≡ true → opening m h first kept ≡ (header m ++ flat_map (encoding 1 0) (section h first)) ++ kept
 unfolding opening
-opening_is m h first kept valid = ap (λ l. header m ++ l ++ kept) (section_same m first h valid)
+opening_is m h first kept valid = ap (λ l. header m ++ l ++ kept) (section_in_versions m first h valid)
 
 pub front_header : (m : ℕ) (h : List Event) (first : ℕ) (kept piece : List ℕ) (a b : Option (List ℕ)) → is_valid h ≡ true → piece ≡ header m → AppendsPart a b piece → AppendsPart a b (opening m h first kept)
 front_header m h first kept piece a b valid is part =

@@ -11,4 +11,3 @@ pub mod Stored
 pub mod Taking
 pub mod Files
 pub mod Answering
-pub mod Versions
