@@ -7,7 +7,7 @@ use Rattle.gfx_io.specs.Pieces.{AppendsPart}
 use Rattle.gfx_model.specs.Blocks.{minor_of}
 use Rattle.gfx_model.specs.Text as model
 use Rattle.gfx_grammar.specs.Splitting.{blocks_of}
-use Rattle.gfx_frames.proofs.Appending.{appends_none, part_of, whole_part}
+use Rattle.gfx_io.proofs.Appending.{appends_none, part_of, whole_part}
 use Rattle.gfx_decode.specs.declared.fault.DecodeFault.{DecodeFault}
 use Rattle.gfx_decode.specs.declared.fault.DecodeFault.TheVariants as decoder
 use Rattle.gfx_words.specs.declared.range.FrameRange.{FrameRange}

@@ -9,10 +9,10 @@ use Rattle.gfx_words.specs.declared.command.Command.TheVariants.{Info, Replay, T
 use Rattle.gfx_play.specs.declared.asked.Asked.{Asked}
 use Rattle.gfx_play.specs.declared.asked.Asked.TheVariants.{All, Between}
 use Rattle.gfx_play.specs.Asked.{has_last}
-use Rattle.gfx_decode.specs.Meanings.{frames_in, end_of}
+use Rattle.gfx_decode.specs.Meanings.{end_of, history_in, frames_in, first_in, last_in}
 use Rattle.gfx_play.specs.Shows as play
 use Rattle.gfx_trim.specs.Numbers as trim
-use Rattle.gfx_trim.specs.Trims.{history_in, IsBehindLast}
+use Rattle.gfx_trim.specs.Trims.{IsBehindLast}
 use Rattle.gfx_trim.specs.Written.{written}
 use Rattle.gfx_trial.specs.Text.{trial_text}
 use Rattle.gfx_cli.specs.Text.{info_text, help_text, version_line}
@@ -54,15 +54,15 @@ pub record HasOnly (asked : Asked) (first last : ℕ) (bytes : List ℕ) : Type 
   pub range : play.IsRange asked
   pub end : end_of bytes ≡ clean
   pub unseen : has_last asked (frames_in bytes) ≡ false
-  pub first_is : first ≡ play.first_in bytes
-  pub last_is : last ≡ play.last_in bytes
+  pub first_is : first ≡ first_in (history_in bytes)
+  pub last_is : last ≡ last_in (history_in bytes)
 
 -- a file ends cleanly without a frame of a range that is to be cut out, and has these
 pub record LacksRange (r : FrameRange) (first last : ℕ) (bytes : List ℕ) : Type 0 where
   pub end : end_of bytes ≡ clean
   pub outside : trim.IsOutside r.first r.last (history_in bytes)
-  pub first_is : first ≡ trim.first_in (history_in bytes)
-  pub last_is : last ≡ trim.last_in (history_in bytes)
+  pub first_is : first ≡ first_in (history_in bytes)
+  pub last_is : last ≡ last_in (history_in bytes)
 
 -- a frame that the command asks for isn't in the file, which has these
 abbrev pub LacksFrame : Command → ℕ → ℕ → List ℕ → Type 0

@@ -1,6 +1,5 @@
 -- What a file means, by the blocks that were read.
-use Rattle.std.proofs.Common.{◌≡◌, ℕ, List, [], ◌∷◌, ◌++◌, Option, Some, None, true, refl, ap, ◌∙◌, is_none}
-use Rattle.std.proofs.lemmas.Bool.{and_from}
+use Rattle.std.proofs.Common.{◌≡◌, ℕ, List, [], ◌∷◌, ◌++◌, Option, Some, None, true, refl, ap, ◌∙◌}
 use Rattle.gfx_types.specs.declared.names.Fault.{Fault}
 use Rattle.gfx_types.specs.declared.frame.Frame.{Frame}
 use Rattle.gfx_model.specs.Events.{Event}
@@ -22,11 +21,6 @@ use Rattle.gfx_decode.specs.Decoding.{coming}
 use Rattle.gfx_decode.specs.Meanings.{judged_of, frames_in}
 use Rattle.gfx_decode.specs.Fed.{IsFed, IsGiven, history_of}
 use Rattle.gfx_decode.proofs.Feeding.{fed_blocks}
-
--- one block more without a fault
-pub valid_more : (h : List Event) (c : Content) → is_valid h ≡ true → content_fault h c ≡ None → is_valid (content_onto c h) ≡ true
-valid_more h skipped valid none = valid
-valid_more h (effect thread e) valid none = and_from (is_valid h) (is_none (fault h e)) valid (ap is_none none)
 
 -- blocks without a fault come before whatever is judged behind them
 pub judge_on : (fed rest : List Whole) (h : List Event) (end : End) → is_valid (events_onto fed h) ≡ true → judge h (fed ++ rest) end ≡ judge (events_onto fed h) rest end

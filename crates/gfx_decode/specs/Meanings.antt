@@ -1,8 +1,10 @@
--- What a file means, computed: its frames up to the first bad block, and how it ends.
-use Rattle.std.specs.Prelude.{ℕ, List, []}
+-- What a file means, computed: its frames up to the first bad block and their numbers, and how it ends.
+use Rattle.std.specs.Prelude.{ℕ, ◌-◌, List, [], ◌∷◌, Option, Some, None, unwrap_or}
 use Rattle.gfx_types.specs.declared.frame.Frame.{Frame}
+use Rattle.gfx_model.specs.Events.{Event}
 use Rattle.gfx_model.specs.Blocks.{End}
 use Rattle.gfx_model.specs.Frames.{frames}
+use Rattle.gfx_model.specs.History.{view}
 use Rattle.gfx_model.specs.Meaning.{Judged, judge}
 use Rattle.gfx_grammar.specs.Splitting.{Blocks, blocks_of}
 
@@ -10,9 +12,25 @@ use Rattle.gfx_grammar.specs.Splitting.{Blocks, blocks_of}
 abbrev pub judged_of : Blocks → Judged
 judged_of b = judge [] b.items b.end
 
+-- the history of a file up to its first bad block
+abbrev pub history_in : List ℕ → List Event
+history_in bytes = (judged_of (blocks_of bytes)).history
+
 -- the frames that a file shows before its first bad block
 abbrev pub frames_in : List ℕ → List Frame
-frames_in bytes = frames (judged_of (blocks_of bytes)).history
+frames_in bytes = frames (history_in bytes)
+
+-- the number of the first of these frames
+abbrev pub first_of : List Frame → Option ℕ
+first_of [] = None
+first_of (f ∷ fs) = Some f.number
+
+-- the numbers of the first and the last frame of a history; where it shows none, the last is one below the first
+abbrev pub first_in : List Event → ℕ
+first_in h = unwrap_or (first_of (frames h)) (view h).next_frame
+
+abbrev pub last_in : List Event → ℕ
+last_in h = (view h).next_frame - 1
 
 -- how a file ends: cleanly, or at its first bad block
 abbrev pub end_of : List ℕ → End

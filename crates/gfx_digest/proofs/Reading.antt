@@ -15,7 +15,7 @@ use Rattle.gfx_trim_law.proofs.Cuts.{onto_parts}
 use Rattle.gfx_blocks.specs.declared.header.Header.{Header}
 use Rattle.gfx_decode.specs.Decoding.{Gives, GivesHeader, IsBlockAt, behind, coming, item_of, start_of}
 use Rattle.gfx_decode.specs.Fed.{ComesNext, IsFed, history_of}
-use Rattle.gfx_decode.specs.Meanings.{frames_in, judged_of}
+use Rattle.gfx_decode.specs.Meanings.{frames_in, judged_of, first_of}
 use Rattle.gfx_decode.specs.Reading.{IsHeader}
 use Rattle.gfx_decode.specs.Stage.{Stage, At}
 use Rattle.gfx_decode.specs.declared.decoder.Raw.{Raw}
@@ -24,7 +24,7 @@ use Rattle.gfx_decode.specs.declared.fault.DecodeFault.TheVariants as decoder
 use Rattle.gfx_decode.proofs.Feeding.{block_comes, fed_blocks, fed_more, fed_none, next_comes}
 use Rattle.gfx_decode.proofs.Judging.{judged_end, judged_fault}
 use Rattle.gfx_play.specs.declared.asked.Asked.TheVariants.{Between}
-use Rattle.gfx_play.specs.Asked.{asked_of, first_of, has_last}
+use Rattle.gfx_play.specs.Asked.{asked_of, has_last}
 use Rattle.gfx_play.proofs.Later.{last_shown}
 use Rattle.gfx_digest.specs.declared.digest.Digested.{Digested}
 use Rattle.gfx_digest.specs.declared.fault.DigestFault.{DigestFault}

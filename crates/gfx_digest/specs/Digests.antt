@@ -3,10 +3,10 @@ use Rattle.std.specs.Prelude.{◌≡◌, ℕ, true, false, List, length, Result,
 use Rattle.sha2.specs.Sha256.{sha256}
 use Rattle.gfx_types.specs.declared.names.Fault.{Fault}
 use Rattle.gfx_model.specs.Blocks.End.{clean, bad}
-use Rattle.gfx_decode.specs.Meanings.{frames_in, end_of}
+use Rattle.gfx_decode.specs.Meanings.{end_of, history_in, frames_in, first_in, last_in}
 use Rattle.gfx_play.specs.declared.asked.Asked.TheVariants.{Between}
 use Rattle.gfx_play.specs.Asked.{asked_of, has_last}
-use Rattle.gfx_play.specs.Shows.{IsBehindLast, first_in, last_in}
+use Rattle.gfx_play.specs.Shows.{IsBehindLast}
 use Rattle.gfx_digest.specs.declared.digest.Digested.{Digested}
 use Rattle.gfx_digest.specs.declared.fault.DigestFault.{DigestFault}
 use Rattle.gfx_digest.specs.declared.fault.DigestFault.TheVariants as digest
@@ -28,8 +28,8 @@ pub record IsBadBefore (first last : ℕ) (fault : Fault) (block offset : ℕ) (
 pub record IsWithout (first last lowest highest : ℕ) (bytes : List ℕ) : Type 0 where
   pub end : end_of bytes ≡ clean
   pub unseen : has_last (Between first last) (frames_in bytes) ≡ false
-  pub lowest_is : lowest ≡ first_in bytes
-  pub highest_is : highest ≡ last_in bytes
+  pub lowest_is : lowest ≡ first_in (history_in bytes)
+  pub highest_is : highest ≡ last_in (history_in bytes)
 
 -- what an answer says of a file; nothing after a failed read or want of memory
 abbrev pub Digests : ℕ → ℕ → Result Digested DigestFault → List ℕ → List ℕ → Type 0

@@ -11,7 +11,8 @@ use Rattle.gfx_tracker.specs.Tracker.{answers}
 use Rattle.gfx_replay.specs.Fed.{rule_of}
 use Rattle.gfx_replay.specs.Replayer.{StandsFor}
 use Rattle.gfx_replay.specs.declared.fault.FeedFault.{FeedFault}
-use Rattle.gfx_play.specs.Asked.{first_of, asked_of, is_last}
+use Rattle.gfx_decode.specs.Meanings.{first_of}
+use Rattle.gfx_play.specs.Asked.{asked_of, is_last}
 use Rattle.gfx_play.specs.Screens.{first_with, shown_by}
 use Rattle.gfx_digest.specs.declared.fault.DigestFault.{DigestFault}
 use Rattle.gfx_digest.specs.declared.fault.DigestFault.TheVariants as digest

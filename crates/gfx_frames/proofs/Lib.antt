@@ -1,5 +1,5 @@
 pub mod Hex
-pub mod Appending
+pub mod SoFar
 pub mod Pieces
 pub mod RowLines
 pub mod Inside

@@ -8,7 +8,7 @@ use Rattle.std.proofs.lemmas.List.{append-nil}
 use Rattle.gfx_io.specs.Pieces.{AppendsPart}
 use Rattle.gfx_types.specs.declared.frame.Picture.{Picture}
 use Rattle.gfx_model.specs.Text.{line, hex_text, row_bytes, row_lines}
-use Rattle.gfx_frames.proofs.Appending.{appends_then, part_then, part_of, whole_part}
+use Rattle.gfx_io.proofs.Appending.{appends_then, part_then, part_of, whole_part}
 
 -- the line of row k
 abbrev pub row_at : Picture → ℕ → List ℕ

@@ -11,7 +11,8 @@ use Rattle.gfx_model.specs.Blocks.Content.{skipped, effect}
 use Rattle.gfx_model.specs.Frames.{frames}
 use Rattle.gfx_model.specs.Meaning.{content_onto}
 use Rattle.gfx_play.specs.declared.asked.Asked.{Asked}
-use Rattle.gfx_play.specs.Asked.{is_asked, first_of, asked_of}
+use Rattle.gfx_decode.specs.Meanings.{first_of}
+use Rattle.gfx_play.specs.Asked.{is_asked, asked_of}
 use Rattle.gfx_play.specs.Screens.{shown_by}
 
 -- the frame, where it is asked for

@@ -19,8 +19,8 @@ use Rattle.gfx_trim_law.proofs.Clock.{some_after}
 use Rattle.gfx_decode.specs.Stage.{Stage}
 use Rattle.gfx_play.specs.declared.asked.Asked.{Asked}
 use Rattle.gfx_play.specs.declared.asked.Asked.TheVariants as asked
-use Rattle.gfx_play.specs.Asked.{is_asked, is_last, first_of, asked_of, has_last}
-use Rattle.gfx_decode.specs.Meanings.{frames_in}
+use Rattle.gfx_play.specs.Asked.{is_asked, is_last, asked_of, has_last}
+use Rattle.gfx_decode.specs.Meanings.{frames_in, first_of}
 use Rattle.gfx_decode.specs.Fed.{history_of, IsFed}
 use Rattle.gfx_decode.proofs.Judging.{longer}
 

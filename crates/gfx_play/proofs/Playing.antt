@@ -28,13 +28,13 @@ use Rattle.gfx_decode.specs.Decoding.{GivesHeader, coming, start_of}
 use Rattle.gfx_decode.specs.Reading.{IsHeader}
 use Rattle.gfx_tracker.specs.Tracker.{answers}
 use Rattle.gfx_frames.specs.declared.lines.Listing.{Listing}
-use Rattle.gfx_frames.proofs.Appending.{appends_none, appends_then, part_of, part_then, whole_part}
+use Rattle.gfx_io.proofs.Appending.{appends_none, appends_then, part_of, part_then, whole_part}
 use Rattle.gfx_replay.specs.Fed.{frame_by}
 use Rattle.gfx_play.specs.declared.asked.Asked.{Asked}
 use Rattle.gfx_play.specs.declared.asked.Asked.TheVariants as asked
 use Rattle.gfx_play.specs.declared.screen.Screen.{Screen}
-use Rattle.gfx_play.specs.Asked.{is_asked, is_last, first_of, asked_of, has_last}
-use Rattle.gfx_decode.specs.Meanings.{judged_of, frames_in, end_of}
+use Rattle.gfx_play.specs.Asked.{is_asked, is_last, asked_of, has_last}
+use Rattle.gfx_decode.specs.Meanings.{judged_of, frames_in, end_of, first_of}
 use Rattle.gfx_play.specs.Screens.{IsAfter, Takes, list_of, shown_by, first_with, lines_of, lines_by, ends_by}
 use Rattle.gfx_decode.specs.Fed.{ComesNext, IsFed, history_of}
 use Rattle.gfx_play.specs.Played.{Played}

@@ -20,7 +20,7 @@ use Rattle.gfx_decode.specs.declared.fault.DecodeFault.{DecodeFault}
 use Rattle.gfx_decode.specs.declared.fault.DecodeFault.TheVariants as decoder
 use Rattle.gfx_frames.specs.declared.lines.PrintFault.{PrintFault}
 use Rattle.gfx_frames.specs.declared.lines.PrintFault.TheVariants as printer
-use Rattle.gfx_frames.proofs.Appending.{appends_none, part_then}
+use Rattle.gfx_io.proofs.Appending.{appends_none, part_then}
 use Rattle.gfx_play.specs.declared.asked.Asked.{Asked}
 use Rattle.gfx_play.specs.declared.asked.Asked.TheVariants as asked
 use Rattle.gfx_play.specs.declared.screen.Screen.{Screen}
@@ -36,7 +36,8 @@ use Rattle.gfx_decode.specs.Reading.{StopsAt, StopsInHeader}
 use Rattle.gfx_play.specs.Played.{Played}
 use Rattle.gfx_play.specs.Shows.{Answers, IsBadAt, IsCut, IsRange, IsShown, IsWithout, Leaves, text_in}
 use Rattle.gfx_decode.proofs.Feeding.{block_comes, fed_more}
-use Rattle.gfx_decode.proofs.Judging.{judged_given, valid_more}
+use Rattle.gfx_decode.proofs.Judging.{judged_given}
+use Rattle.gfx_trim_law.proofs.Prefix.{valid_more}
 use Rattle.gfx_decode.proofs.Stopping.{GivesNone, header_stops, stops_behind_blocks, told_stop}
 use Rattle.gfx_decode.proofs.Told.{told_if, told_through}
 use Rattle.gfx_play.proofs.Playing.{played_bad, played_front, played_rule, bad_so, played_all, played_without, end_front, front_of, lines_then}

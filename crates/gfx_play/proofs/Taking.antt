@@ -30,7 +30,8 @@ use Rattle.gfx_replay.specs.declared.fault.FeedFault.TheVariants as replayer
 use Rattle.gfx_play.specs.Faults.{of_replayer, of_screen}
 use Rattle.gfx_play.specs.declared.asked.Asked.{Asked}
 use Rattle.gfx_play.specs.declared.screen.Screen.{Screen}
-use Rattle.gfx_play.specs.Asked.{first_of, asked_of, is_asked, is_last}
+use Rattle.gfx_decode.specs.Meanings.{first_of}
+use Rattle.gfx_play.specs.Asked.{asked_of, is_asked, is_last}
 use Rattle.gfx_play.specs.Screens.{IsAfter, Takes, fault_told, list_of, first_with, lines_of, lines_by}
 use Rattle.gfx_play.proofs.Asking.{if_asked, asked_more, frames_more}
 

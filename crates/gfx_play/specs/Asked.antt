@@ -1,7 +1,8 @@
 -- The frames that are asked for.
-use Rattle.std.specs.Prelude.{ℕ, Bool, true, false, ◌&&◌, ◌==◌, nat_le, List, [], ◌∷◌, filter, Option, Some, None, unwrap_or}
+use Rattle.std.specs.Prelude.{ℕ, Bool, true, false, ◌&&◌, ◌==◌, nat_le, List, filter, unwrap_or}
 use Rattle.std.specs.List.{list_any}
 use Rattle.gfx_types.specs.declared.frame.Frame.{Frame}
+use Rattle.gfx_decode.specs.Meanings.{first_of}
 use Rattle.gfx_play.specs.declared.asked.Asked.{Asked}
 use Rattle.gfx_play.specs.declared.asked.Asked.TheVariants as asked
 
@@ -9,11 +10,6 @@ use Rattle.gfx_play.specs.declared.asked.Asked.TheVariants as asked
 abbrev pub is_asked : Asked → ℕ → ℕ → Bool
 is_asked asked.All first n = true
 is_asked (asked.Between a b) first n = nat_le first a && nat_le a n && nat_le n b
-
--- the number of the first of these frames
-abbrev pub first_of : List Frame → Option ℕ
-first_of [] = None
-first_of (f ∷ fs) = Some f.number
 
 -- the frames that are asked for among all that a file shows
 abbrev pub asked_of : Asked → List Frame → List Frame

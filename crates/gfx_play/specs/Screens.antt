@@ -17,7 +17,8 @@ use Rattle.gfx_play.specs.declared.fault.TakeFault.{TakeFault}
 use Rattle.gfx_play.specs.declared.fault.TakeFault.TheVariants as take
 use Rattle.gfx_play.specs.declared.fault.ShowFault.{ShowFault}
 use Rattle.gfx_play.specs.declared.fault.ShowFault.TheVariants as show
-use Rattle.gfx_play.specs.Asked.{first_of, asked_of, is_asked, is_last}
+use Rattle.gfx_decode.specs.Meanings.{first_of}
+use Rattle.gfx_play.specs.Asked.{asked_of, is_asked, is_last}
 use Rattle.gfx_play.specs.declared.screen.Screen.{Screen}
 
 -- the lines of frames

@@ -1,10 +1,9 @@
 -- What is written of a file, and where reading ends.
-use Rattle.std.specs.Prelude.{◌≡◌, ℕ, Bool, true, false, ◌-◌, List, [], ◌∷◌, ◌++◌, Option, unwrap_or, Result, Ok, Err, ⊤}
+use Rattle.std.specs.Prelude.{◌≡◌, ℕ, Bool, true, false, List, [], ◌∷◌, ◌++◌, Option, Result, Ok, Err, ⊤}
 use Rattle.std.specs.Io.KnownBytes.{Appends}
 use Rattle.gfx_io.specs.Pieces.{AppendsPart}
 use Rattle.gfx_model.specs.Blocks.{Whole, minor_of}
 use Rattle.gfx_model.specs.Blocks.End.{clean, bad}
-use Rattle.gfx_model.specs.History.{view}
 use Rattle.gfx_model.specs.Text.{frames_text}
 use Rattle.sha2.specs.Sha256.{sha256}
 use Rattle.gfx_grammar.specs.Framing.{IsHeader}
@@ -12,12 +11,12 @@ use Rattle.gfx_grammar.specs.Splitting.{blocks_of}
 use Rattle.gfx_types.specs.declared.names.Fault.{Fault}
 use Rattle.gfx_play.specs.declared.asked.Asked.{Asked}
 use Rattle.gfx_play.specs.declared.asked.Asked.TheVariants as asked
-use Rattle.gfx_play.specs.Asked.{first_of, asked_of, has_last}
+use Rattle.gfx_play.specs.Asked.{asked_of, has_last}
 use Rattle.gfx_model.specs.Frames.{frames}
 use Rattle.gfx_play.specs.declared.fault.ShowFault.{ShowFault}
 use Rattle.gfx_play.specs.declared.fault.ShowFault.TheVariants as show
 use Rattle.gfx_decode.specs.Fed.{file_with, history_of}
-use Rattle.gfx_decode.specs.Meanings.{judged_of, frames_in, end_of}
+use Rattle.gfx_decode.specs.Meanings.{frames_in, end_of, history_in, first_in, last_in}
 use Rattle.gfx_play.specs.Screens.{lines_of}
 
 -- the lines of the frames that are asked for
@@ -38,13 +37,6 @@ abbrev pub IsRange : Asked → Type 0
 IsRange asked.All = ⊥
 IsRange (asked.Between a b) = ⊤
 
--- the numbers of a file's first and last frame; where it shows none, the last is one below the first
-abbrev pub first_in : List ℕ → ℕ
-first_in bytes = unwrap_or (first_of (frames_in bytes)) (view (judged_of (blocks_of bytes)).history).next_frame
-
-abbrev pub last_in : List ℕ → ℕ
-last_in bytes = (view (judged_of (blocks_of bytes)).history).next_frame - 1
-
 -- everything was shown that is asked for
 pub record IsShown (a : Asked) (pixels : Bool) (before after : Option (List ℕ)) (bytes : List ℕ) : Type 0 where
   pub complete : IsComplete a bytes
@@ -61,8 +53,8 @@ pub record IsWithout (a : Asked) (pixels : Bool) (before after : Option (List �
   pub range : IsRange a
   pub end : end_of bytes ≡ clean
   pub unseen : has_last a (frames_in bytes) ≡ false
-  pub first_is : first ≡ first_in bytes
-  pub last_is : last ≡ last_in bytes
+  pub first_is : first ≡ first_in (history_in bytes)
+  pub last_is : last ≡ last_in (history_in bytes)
   pub text : Appends before after (lines_in a pixels bytes)
 
 -- a read failed before the last frame that is asked for and before any rule fault: the frames of the bytes that were given were shown

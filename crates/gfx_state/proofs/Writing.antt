@@ -1,15 +1,14 @@
 -- What is written one after the other.
-use Rattle.std.proofs.Common.{◌≡◌, ℕ, zero, suc, ◌<◌, get_or, map, drop-cons, ◌+◌, ◌≤◌, List, [], ◌∷◌, ◌++◌, length, take, flat_map, Result, Ok, Err, refl, ap, sym, subst, ◌∙◌, append_assoc, length-append, take_at, drop, drop_at, arith}
-use Rattle.std.proofs.Math.Seq.{take-add}
+use Rattle.std.proofs.Common.{◌≡◌, ℕ, zero, suc, ◌<◌, get_or, map, drop-cons, ◌+◌, ◌≤◌, List, [], ◌∷◌, ◌++◌, length, take, flat_map, Result, Ok, Err, refl, ap, sym, subst, ◌∙◌, append_assoc, drop, arith}
 use Rattle.std.proofs.lemmas.List.{append-nil}
 use Rattle.std.proofs.lemmas.Result.{err_from_is_err_and}
 use Rattle.std.specs.Prelude.{Some, None, IsErrAnd}
 use Rattle.std.specs.declared.option.Option.{Option}
 use Rattle.std.specs.Io.KnownBytes.{Appends}
 use Rattle.std.proofs.KnownBytes.{Appends-trans}
-use Rattle.std.proofs.lemmas.List.{take-append-le}
 use Rattle.gfx_io.specs.Causes.{Rose}
 use Rattle.gfx_io.specs.Pieces.{AppendsPart}
+use Rattle.gfx_io.proofs.Appending.{part_of, part_then}
 use Rattle.gfx_model.specs.Events.{Event}
 use Rattle.gfx_model.specs.Spelling.{encoding}
 use Rattle.gfx_state.specs.declared.fault.StateFault.{StateFault}
@@ -35,25 +34,6 @@ blocks_append xs ys = flat_append xs ys
 pub block_of_one : (e : Event) → blocks_of (e ∷ []) ≡ encoding 1 0 e
 unfolding blocks_of
 block_of_one e = append-nil (encoding 1 0 e)
-
--- ---- parts
-
--- a front of the first piece is one of both
-part_left : (o n : Option (List ℕ)) (xs ys : List ℕ) → AppendsPart o n xs → AppendsPart o n (xs ++ ys)
-part_left o n xs ys part =
-    let long = length-append xs ys in
-    let within = part.1 in
-    (part.0, omega (arith, long, within), subst (Appends o n) (sym (take-append-le part.0 xs ys within)) part.2)
-
--- the first piece and a front of the second
-part_right : (o m n : Option (List ℕ)) (xs ys : List ℕ) → Appends o m xs → AppendsPart m n ys → AppendsPart o n (xs ++ ys)
-part_right o m n xs ys whole part =
-    let long = length-append xs ys in
-    let within = part.1 in
-    (length xs + part.0, omega (arith, long, within), subst (Appends o n) (sym (both xs part.0)) (Appends-trans o m n xs (take part.0 ys) whole part.2))
-  where
-    both : (xs : List ℕ) (k : ℕ) → take (length xs + k) (xs ++ ys) ≡ xs ++ take k ys
-    both xs k = take-add (length xs) k (xs ++ ys) ∙ ap (λ l. l ++ take k (drop (length xs) (xs ++ ys))) (take_at xs ys (length xs) refl) ∙ ap (λ l. xs ++ take k l) (drop_at xs ys (length xs) refl)
 
 -- ---- calls
 
@@ -81,7 +61,7 @@ wrote_both {o = o} {m = m} {n = n} {a = a} {b = b} {c = c} {xs = xs} {ys = ys} (
 }
 wrote_both {o = o} {m = m} {n = n} {a = a} {b = b} {c = c} {xs = xs} {ys = ys} (Err f) v w = record {
   whole = tt;
-  front = subst (AppendsPart o n) (sym (blocks_append xs ys)) (part_right o m n (blocks_of xs) (blocks_of ys) v.whole w.front);
+  front = subst (AppendsPart o n) (sym (blocks_append xs ys)) (part_then o m n (blocks_of xs) (blocks_of ys) v.whole w.front);
   later = let p = v.later in let q = w.later in omega (arith, p, q);
   cause = λ e. let p = v.later in let q = w.cause e in omega (arith, p, q);
 }
@@ -91,7 +71,7 @@ pub wrote_part : {o n : Option (List ℕ)} {a b : ℕ} {xs : List Event} (ys : L
     → Wrote o n a b xs (Err e) → Wrote o n a b (xs ++ ys) (Err e)
 wrote_part {o = o} {n = n} {xs = xs} ys w = record {
   whole = tt;
-  front = subst (AppendsPart o n) (sym (blocks_append xs ys)) (part_left o n (blocks_of xs) (blocks_of ys) w.front);
+  front = subst (AppendsPart o n) (sym (blocks_append xs ys)) (part_of o n (blocks_of xs) (blocks_of ys) w.front);
   later = w.later;
   cause = w.cause;
 }

@@ -1,5 +1,5 @@
 -- Files that have a range of frames, and what the file that is cut out has.
-use Rattle.std.proofs.Common.{◌≡◌, ◌≤◌, ◌+◌, ◌==◌, ℕ, true, List, [], ◌++◌, get_or, length, Some, Ok, refl, sym, ap, subst, ◌∙◌, arith}
+use Rattle.std.proofs.Common.{◌≡◌, ◌≤◌, ◌+◌, ◌==◌, ℕ, true, List, [], ◌++◌, get_or, length, Some, refl, sym, ap, subst, ◌∙◌, arith}
 use Rattle.std.specs.Prelude.{unwrap_or}
 use Rattle.std.specs.List.{list_any}
 use Rattle.std.proofs.lemmas.List.{length-map}
@@ -15,12 +15,11 @@ use Rattle.gfx_grammar.specs.Reads.{AreBytes}
 use Rattle.gfx_grammar.specs.Splitting.{Blocks, blocks_of}
 use Rattle.gfx_trim_law.specs.Law.{frames_from}
 use Rattle.gfx_trim_law.proofs.Prefix.{prefix}
-use Rattle.gfx_decode.specs.Meanings.{frames_in, end_of, judged_of}
+use Rattle.gfx_decode.specs.Meanings.{frames_in, end_of, judged_of, history_in, first_of}
 use Rattle.gfx_play.specs.declared.asked.Asked.TheVariants.{Between}
-use Rattle.gfx_play.specs.Asked.{asked_of, first_of, has_last}
+use Rattle.gfx_play.specs.Asked.{asked_of, has_last}
 use Rattle.gfx_trim.specs.Keeps.{Keeps}
 use Rattle.gfx_trim.specs.Numbers.{IsInside}
-use Rattle.gfx_trim.specs.Trims.{history_in}
 use Rattle.gfx_trim.proofs.Numbers.{inside}
 use Rattle.gfx_trial.specs.Files.{HasFrames, count_of}
 use Rattle.gfx_trial.proofs.Picks.{asked_is, first_in_range, first_number, has_more, has_number, in_range, last_is, numbers, picked_again}

@@ -1,5 +1,5 @@
 -- Frames that are picked by their numbers.
-use Rattle.std.proofs.Common.{◌≡◌, ◌≤◌, ◌<◌, ◌+◌, ◌-◌, ◌==◌, ◌||◌, ◌&&◌, ℕ, zero, suc, Bool, true, false, cond, List, [], ◌∷◌, length, get_or, map, refl, sym, ap, ◌∙◌, arith}
+use Rattle.std.proofs.Common.{◌≡◌, ◌≤◌, ◌<◌, ◌+◌, ◌-◌, ◌==◌, ◌||◌, ◌&&◌, ℕ, zero, suc, Bool, true, false, cond, List, [], ◌∷◌, get_or, map, refl, sym, ap, ◌∙◌, arith}
 use Rattle.std.specs.Prelude.{nat_le, unwrap_or}
 use Rattle.std.specs.List.{filter, list_all, list_any, range_with_len}
 use Rattle.std.proofs.lemmas.Bool.{eqb-false, le-leb, lt-leb}
@@ -7,7 +7,8 @@ use Rattle.gfx_types.specs.declared.frame.Frame.{Frame}
 use Rattle.gfx_model.specs.Meaning.{frames_to, has_frame}
 use Rattle.gfx_trim_law.specs.Law.{frames_from}
 use Rattle.gfx_play.specs.declared.asked.Asked.TheVariants.{Between}
-use Rattle.gfx_play.specs.Asked.{asked_of, first_of, has_last}
+use Rattle.gfx_decode.specs.Meanings.{first_of}
+use Rattle.gfx_play.specs.Asked.{asked_of, has_last}
 
 -- ---- numbers one after another
 

@@ -1,21 +1,19 @@
 -- The middle third of the capture that is made.
-use Rattle.std.proofs.Common.{◌≡◌, ◌≤◌, ◌*◌, ◌/◌, ℕ, List, [], ◌∷◌, get_or, map, refl, sym, ap, subst, ◌∙◌, arith}
+use Rattle.std.proofs.Common.{◌≡◌, ◌≤◌, ℕ, List, [], ◌∷◌, get_or, map, refl, sym, ap, subst, ◌∙◌, arith}
 use Rattle.std.specs.Prelude.{nat_le, unwrap_or}
 use Rattle.std.specs.List.{filter, range_with_len}
 use Rattle.gfx_types.specs.declared.frame.Frame.{Frame}
 use Rattle.gfx_model.specs.Blocks.End.{clean}
 use Rattle.gfx_model.specs.Frames.{frames}
 use Rattle.gfx_model.specs.History.{onto}
-use Rattle.gfx_model.specs.Meaning.{Means, frames_to}
-use Rattle.gfx_trim_law.specs.Law.{frames_from}
-use Rattle.gfx_play.specs.Asked.{first_of}
+use Rattle.gfx_model.specs.Meaning.{Means}
+use Rattle.gfx_decode.specs.Meanings.{first_of}
 use Rattle.gfx_make.specs.Made.{made, made_file}
 use Rattle.gfx_make.specs.Shown.{shown_frame}
 use Rattle.gfx_make.proofs.Meaning.{made_is_meant}
 use Rattle.gfx_make.proofs.Shows.{made_shows}
 use Rattle.gfx_trial.specs.Files.{HasFrames}
 use Rattle.gfx_trial.specs.Text.{middle, middle_first, middle_last}
-use Rattle.gfx_trial.proofs.Files.{means_so}
 use Rattle.gfx_trial.proofs.Picks.{first_in_range, first_number, numbers_between, range_picked}
 
 -- frames have the numbers that they are made for

@@ -24,7 +24,7 @@ use Rattle.gfx_trim.specs.Cutters.{Ends, Refuses, next_frame_of, text_by}
 use Rattle.gfx_trim.specs.Faults.{of_decoder}
 use Rattle.gfx_trim.specs.Trims.{Answers, Cutting, IsBadAt, IsWithout, KeepsIfDone}
 use Rattle.gfx_trim.specs.Written.{written}
-use Rattle.gfx_trim.proofs.Appending.{appends_none}
+use Rattle.gfx_io.proofs.Appending.{appends_none}
 use Rattle.gfx_trim.proofs.Files.{cut_bad, cut_clean, cut_done, cut_front, cut_front_more, cut_rule, cut_short, header_bad, header_short}
 
 -- an answer, and that the trimmed file keeps its frames

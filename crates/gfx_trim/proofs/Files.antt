@@ -32,20 +32,21 @@ use Rattle.gfx_decode.specs.Decoding.{coming, GivesHeader, start_of}
 use Rattle.gfx_decode.specs.Reading.{IsHeader}
 use Rattle.gfx_blocks.specs.declared.header.Header.{Header}
 use Rattle.gfx_decode.specs.Fed.{ComesNext, history_of, IsFed, IsGiven}
-use Rattle.gfx_decode.specs.Meanings.{end_of, judged_of}
+use Rattle.gfx_decode.specs.Meanings.{end_of, judged_of, first_in, last_in, history_in}
 use Rattle.gfx_decode.proofs.Feeding.{fed_blocks, fed_more, fed_none}
-use Rattle.gfx_decode.proofs.Judging.{judged_end, judged_fault, judged_given, valid_more}
+use Rattle.gfx_decode.proofs.Judging.{judged_end, judged_fault, judged_given}
+use Rattle.gfx_trim_law.proofs.Prefix.{valid_more}
 use Rattle.gfx_decode.proofs.Stopping.{GivesNone, stops_behind_blocks}
 use Rattle.gfx_trim.specs.declared.cutter.Cutter.{Cutter}
 use Rattle.gfx_trim.specs.declared.phase.Phase.{Phase}
 use Rattle.gfx_trim.specs.declared.phase.Phase.TheVariants as phase
 use Rattle.gfx_trim.specs.Cutters.{IsAfter, Ends, GoesOn, number_by, next_frame_of, text_by}
 use Rattle.gfx_trim.specs.Keeps.{Keeps}
-use Rattle.gfx_trim.specs.Numbers.{first_in, last_in, IsOutside}
+use Rattle.gfx_trim.specs.Numbers.{IsOutside}
 use Rattle.gfx_trim.specs.Phases.{IsPhase}
-use Rattle.gfx_trim.specs.Trims.{Cutting, history_in, IsBadAt, IsBehindLast, IsCut, IsDone, IsWithout, trimmed}
+use Rattle.gfx_trim.specs.Trims.{Cutting, IsBadAt, IsBehindLast, IsCut, IsDone, IsWithout, trimmed}
 use Rattle.gfx_trim.specs.Written.{has_effect, valid_from, valid_in, written, written_of}
-use Rattle.gfx_trim.proofs.Appending.{appends_none, part_of, whole_part}
+use Rattle.gfx_io.proofs.Appending.{appends_none, part_of, whole_part}
 use Rattle.gfx_trim.proofs.Cutting.{quiet_reaches}
 use Rattle.gfx_trim.proofs.Growing.{grown, text_some, text_whole}
 use Rattle.gfx_trim.proofs.Judging.{valid_bad, valid_none, valid_on}

@@ -18,7 +18,7 @@ use Rattle.gfx_replay.specs.declared.replayer.Replayer.{Replayer}
 use Rattle.gfx_state.specs.Stored.{HasPlaces, IsStored}
 use Rattle.gfx_trim.specs.Cutters.{opening}
 use Rattle.gfx_trim.specs.Phases.{IsWaiting}
-use Rattle.gfx_trim.proofs.Appending.{appends_then, part_of, part_then}
+use Rattle.gfx_io.proofs.Appending.{appends_then, part_of, part_then}
 use Rattle.gfx_trim.proofs.Steps.{waiting_history}
 use Rattle.gfx_trim.proofs.Stored.{replay_places, replay_stands, replay_stored}
 use Rattle.gfx_state.proofs.Versions.{section_in_versions}

@@ -31,10 +31,10 @@ use Rattle.gfx_trim.specs.declared.fault.TrimFault.TheVariants as trim
 use Rattle.gfx_trim.specs.declared.phase.Phase.{Phase}
 use Rattle.gfx_trim.specs.declared.phase.Phase.TheVariants as phase
 use Rattle.gfx_trim.specs.Cutters.{GoesOn, IsAfter, IsAsFar, IsFed, IsOfSameRange, IsReplayed, IsReplayedAlike, Refuses, Takes, is_number, number_by, opening, text_by}
-use Rattle.gfx_trim.specs.Numbers.{first_of}
+use Rattle.gfx_decode.specs.Meanings.{first_of}
 use Rattle.gfx_trim.specs.Phases.{Continues, IsBefore, IsPhase, IsWaiting, IsWriting}
 use Rattle.gfx_trim.specs.Written.{has_effect}
-use Rattle.gfx_trim.proofs.Appending.{part_of, whole_part}
+use Rattle.gfx_io.proofs.Appending.{part_of, whole_part}
 use Rattle.gfx_trim.proofs.Growing.{grown, text_going, text_waiting}
 use Rattle.gfx_trim.proofs.Fronts.{opening_file}
 use Rattle.gfx_trim.proofs.Phases.{closed_at}

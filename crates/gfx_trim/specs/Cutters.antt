@@ -17,7 +17,7 @@ use Rattle.gfx_decode.specs.Fed.{history_of}
 use Rattle.gfx_trim.specs.declared.cutter.Cutter.{Cutter}
 use Rattle.gfx_trim.specs.declared.fault.TrimFault.{TrimFault}
 use Rattle.gfx_trim.specs.declared.fault.TrimFault.TheVariants as trim
-use Rattle.gfx_trim.specs.Numbers.{first_of}
+use Rattle.gfx_decode.specs.Meanings.{first_of}
 use Rattle.gfx_trim.specs.Phases.{IsPhase}
 use Rattle.gfx_trim.specs.Written.{has_effect, range_in, written_of}
 

@@ -3,7 +3,6 @@ use Rattle.std.specs.Prelude.{◌≡◌, ℕ, List, [], ◌∷◌, ◌++◌, Opt
 use Rattle.std.specs.Io.KnownBytes.{Appends}
 use Rattle.gfx_io.specs.Pieces.{AppendsPart}
 use Rattle.gfx_types.specs.declared.names.Fault.{Fault}
-use Rattle.gfx_model.specs.Events.{Event}
 use Rattle.gfx_model.specs.Blocks.{Whole, minor_of}
 use Rattle.gfx_model.specs.Blocks.End.{clean, bad}
 use Rattle.gfx_model.specs.Trimmed.{boundary, trimmed_by}
@@ -12,18 +11,14 @@ use Rattle.gfx_grammar.specs.Reads.{AreBytes}
 use Rattle.gfx_grammar.specs.Splitting.{blocks_of}
 use Rattle.gfx_decode.specs.Stage.{Stage}
 use Rattle.gfx_decode.specs.Fed.{file_with, history_of, IsFed}
-use Rattle.gfx_decode.specs.Meanings.{judged_of, end_of}
+use Rattle.gfx_decode.specs.Meanings.{end_of, history_in, first_in, last_in}
 use Rattle.gfx_trim.specs.declared.cutter.Cutter.{Cutter}
 use Rattle.gfx_trim.specs.declared.fault.TrimFault.{TrimFault}
 use Rattle.gfx_trim.specs.declared.fault.TrimFault.TheVariants as trim
 use Rattle.gfx_trim.specs.Cutters.{IsAfter, number_by, text_by}
 use Rattle.gfx_trim.specs.Keeps.{Keeps}
-use Rattle.gfx_trim.specs.Numbers.{first_in, last_in, IsInside, IsOutside}
+use Rattle.gfx_trim.specs.Numbers.{IsInside, IsOutside}
 use Rattle.gfx_trim.specs.Written.{written}
-
--- the history of a file before its first bad block
-abbrev pub history_in : List ℕ → List Event
-history_in bytes = (judged_of (blocks_of bytes)).history
 
 -- the trimmed file of a range
 abbrev pub trimmed : (first last : ℕ) → List ℕ → List ℕ

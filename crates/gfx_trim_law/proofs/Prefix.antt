@@ -18,7 +18,8 @@ pub record Prefix (h : List Event) (ws : List Whole) (end : End) : Type 0 where
   pub valid : is_valid (events_onto good h) ≡ true
   pub history : (judge h ws end).history ≡ events_onto good h
 
-valid_more : (h : List Event) (c : Content) → is_valid h ≡ true → content_fault h c ≡ None → is_valid (content_onto c h) ≡ true
+-- one block more without a fault
+pub valid_more : (h : List Event) (c : Content) → is_valid h ≡ true → content_fault h c ≡ None → is_valid (content_onto c h) ≡ true
 valid_more h skipped valid fine = valid
 valid_more h (effect thread e) valid fine = and_from (is_valid h) (is_none (fault h e)) valid (ap is_none fine)
 

@@ -3,7 +3,7 @@ use Rattle.std.specs.Io.KnownBytes.{Appends}
 use Rattle.gfx_io.specs.Pieces.{AppendsPart}
 use Rattle.gfx_model.specs.Text.{hex_text}
 use Rattle.gfx_frames.specs.Texts.{first_line, digest_line}
-use Rattle.gfx_frames.proofs.Appending.{whole_part}
+use Rattle.gfx_io.proofs.Appending.{whole_part}
 use Rattle.gfx_frames.proofs.lines.write_digest.Goals as goal
 
 pub returns-in_err-write_whole-clause-front : goal.returns-in_err-write_whole-clause-front

@@ -2,7 +2,8 @@ use Rattle.std.proofs.Common.{subst, sym}
 use Rattle.std.specs.Io.KnownBytes.{Appends}
 use Rattle.gfx_io.specs.Pieces.{AppendsPart}
 use Rattle.gfx_frames.specs.Texts.{first_line, rows_of, lines_of}
-use Rattle.gfx_frames.proofs.Appending.{appends_then, part_then, part_of, on_ok}
+use Rattle.gfx_io.proofs.Appending.{appends_then, part_then, part_of}
+use Rattle.gfx_frames.proofs.SoFar.{on_ok}
 use Rattle.gfx_frames.proofs.Listed.{with_rows, without_rows, lines_front}
 use Rattle.gfx_frames.proofs.lines.write_picture.Goals as goal
 

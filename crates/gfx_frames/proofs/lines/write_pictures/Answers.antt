@@ -1,6 +1,6 @@
 use Rattle.std.proofs.Common.{ap, subst, sym, ◌∙◌, arith}
 use Rattle.gfx_frames.specs.Texts.{text_of}
-use Rattle.gfx_frames.proofs.Appending.{SoFar, so_far_none, so_far_more, so_far_part, so_far_front}
+use Rattle.gfx_frames.proofs.SoFar.{SoFar, so_far_none, so_far_more, so_far_part, so_far_front}
 use Rattle.gfx_frames.proofs.Listed.{lines_from, text_is, next_lines}
 use Rattle.gfx_frames.proofs.lines.write_pictures.Goals as goal
 

@@ -1,6 +1,6 @@
 use Rattle.std.proofs.Common.{◌≤◌, ◌+◌, drop}
 use Rattle.gfx_frames.specs.Texts.{text_of}
-use Rattle.gfx_frames.proofs.Appending.{SoFar}
+use Rattle.gfx_frames.proofs.SoFar.{SoFar}
 use Rattle.gfx_frames.proofs.Listed.{lines_from}
 use Rattle.gfx_frames.proofs.lines.write_pictures.Given as goal
 

@@ -1,7 +1,7 @@
 use Rattle.std.proofs.Common.{ap, subst, ◌∙◌}
 use Rattle.std.specs.Io.KnownBytes.{Appends}
 use Rattle.gfx_io.specs.Pieces.{AppendsPart}
-use Rattle.gfx_frames.proofs.Appending.{whole_part}
+use Rattle.gfx_io.proofs.Appending.{whole_part}
 use Rattle.gfx_trial.specs.Text.{lines_on, trial_text}
 use Rattle.gfx_trial.proofs.trial.write_trial.Goals as goal
 

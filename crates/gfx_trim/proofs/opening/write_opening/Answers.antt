@@ -1,6 +1,6 @@
 use Rattle.std.proofs.Common.{◌≡◌, ◌++◌, ap, ◌∙◌}
 use Rattle.gfx_model.specs.Spelling.{header}
-use Rattle.gfx_trim.proofs.Appending.{whole_part}
+use Rattle.gfx_io.proofs.Appending.{whole_part}
 use Rattle.gfx_trim.proofs.Fronts.{front_header, front_kept, front_section, places_for, stands_for, stored_for, whole_opening}
 use Rattle.gfx_trim.proofs.opening.write_opening.Goals as goal
 

@@ -4,7 +4,7 @@ use Rattle.std.proofs.lemmas.Result.{err_from_is_err_and}
 use Rattle.gfx_io.specs.Pieces.{AppendsPart}
 use Rattle.gfx_blocks.specs.Payloads.{content_of}
 use Rattle.gfx_replay.specs.Replayer.{IsFed}
-use Rattle.gfx_frames.proofs.Appending.{appends_none}
+use Rattle.gfx_io.proofs.Appending.{appends_none}
 use Rattle.gfx_play.specs.Screens.{fault_told}
 use Rattle.gfx_play.proofs.Taking.{one_text, no_text, one_taken, none_taken, fault_is, fed_fault, shown_fault}
 use Rattle.gfx_play.proofs.screen.Screen.take.Goals as goal

@@ -2,7 +2,7 @@ use Rattle.std.proofs.Common.{subst}
 use Rattle.std.specs.Io.KnownBytes.{Appends}
 use Rattle.gfx_io.specs.Pieces.{AppendsPart}
 use Rattle.gfx_trim.specs.Cutters.{opening}
-use Rattle.gfx_trim.proofs.Appending.{appends_then, part_of, part_then}
+use Rattle.gfx_io.proofs.Appending.{appends_then, part_of, part_then}
 use Rattle.gfx_trim.proofs.Taking.{still_ok}
 use Rattle.gfx_trim.proofs.cutter.Cutter.begin.Goals as goal
 

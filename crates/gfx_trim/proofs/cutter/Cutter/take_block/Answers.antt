@@ -4,7 +4,7 @@ use Rattle.gfx_io.specs.Pieces.{AppendsPart}
 use Rattle.gfx_decode.specs.Decoding.{item_of}
 use Rattle.gfx_decode.specs.Fed.{history_of}
 use Rattle.gfx_trim.specs.Cutters.{text_by}
-use Rattle.gfx_trim.proofs.Appending.{appends_then, part_then}
+use Rattle.gfx_io.proofs.Appending.{appends_then, part_then}
 use Rattle.gfx_trim.proofs.Steps.{before_text, writing_continues}
 use Rattle.gfx_trim.proofs.Taking.{before_phase, front_on, goes_takes, if_err, if_ok, on_ok, still_ok, text_on, writing_phase}
 use Rattle.gfx_trim.proofs.cutter.Cutter.take_block.Goals as goal

@@ -6,7 +6,7 @@ use Rattle.gfx_decode.specs.Decoding.{item_of}
 use Rattle.gfx_decode.specs.Fed.{history_of}
 use Rattle.gfx_trim.specs.Cutters.{opening, text_by}
 use Rattle.gfx_trim.specs.Written.{acts}
-use Rattle.gfx_trim.proofs.Appending.{appends_then, part_then}
+use Rattle.gfx_io.proofs.Appending.{appends_then, part_then}
 use Rattle.gfx_trim.proofs.Steps.{keep_text, restart_text, waiting_continues}
 use Rattle.gfx_trim.proofs.Taking.{front_on, goes_takes, if_err, if_ok, keeps_on, on_ok, restarts, still_ok, text_first, waiting_phase, want_memory}
 use Rattle.gfx_trim.proofs.cutter.Cutter.wait.Goals as goal

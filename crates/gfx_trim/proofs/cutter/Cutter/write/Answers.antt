@@ -1,6 +1,6 @@
 use Rattle.gfx_decode.specs.Decoding.{item_of}
 use Rattle.gfx_decode.specs.Fed.{history_of}
-use Rattle.gfx_trim.proofs.Appending.{whole_part}
+use Rattle.gfx_io.proofs.Appending.{whole_part}
 use Rattle.gfx_trim.proofs.Taking.{writes}
 use Rattle.gfx_trim.proofs.cutter.Cutter.write.Goals as goal
 
