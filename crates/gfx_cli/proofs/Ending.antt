@@ -1,5 +1,5 @@
 -- How a command ends, by what was read and written.
-use Rattle.std.proofs.Common.{◌≡◌, ◌⊎◌, inl, inr, ℕ, List, [], ◌++◌, Option, Some, None, Result, Ok, Err, Bool, refl, sym, ap, subst, ◌∙◌, append_assoc}
+use Rattle.std.proofs.Common.{◌≡◌, ℕ, List, [], ◌++◌, Option, Some, None, Result, Ok, Err, Bool, refl, sym, ap, subst, ◌∙◌, append_assoc}
 use Rattle.std.specs.Prelude.{decimal, codes, OnOk, IfErr}
 use Rattle.gfx_io.specs.Told.{IfTold}
 use Rattle.std.specs.Io.KnownBytes.{Appends}
@@ -7,7 +7,7 @@ use Rattle.gfx_io.specs.Pieces.{AppendsPart}
 use Rattle.gfx_model.specs.Blocks.{minor_of}
 use Rattle.gfx_model.specs.Text as model
 use Rattle.gfx_grammar.specs.Splitting.{blocks_of}
-use Rattle.gfx_io.proofs.Appending.{appends_none, part_of, whole_part}
+use Rattle.gfx_io.proofs.Appending.{appends_none, nothing_written, part_of, whole_part}
 use Rattle.gfx_decode.specs.declared.fault.DecodeFault.{DecodeFault}
 use Rattle.gfx_decode.specs.declared.fault.DecodeFault.TheVariants as decoder
 use Rattle.gfx_words.specs.declared.range.FrameRange.{FrameRange}
@@ -26,20 +26,17 @@ use Rattle.gfx_cli.specs.declared.stop.Stop.{Stop}
 use Rattle.gfx_cli.specs.declared.stop.Stop.TheVariants.{WantMemory, BadFile, NoSuchFrame, ReadFault, WriteFault}
 use Rattle.gfx_cli.specs.Commands.{IsGood, Leaves, asked_by, text_by, text_before}
 use Rattle.gfx_cli.specs.Counts.{CountsAll}
-use Rattle.gfx_cli.specs.Ends.{Ends, IsCutOff, IsDone, Stops}
+use Rattle.gfx_cli.specs.Ends.{Ends, IsDone, Stops}
 use Rattle.gfx_cli.specs.Stop.{of_decoder, of_show, of_trim, IsUnwritten}
 use Rattle.gfx_cli.specs.Text.{at_clean, counts_text, info_text, line_feed}
 
 -- ---- `info`
 
-pub nothing_written : (taken : Option (List ℕ)) (text : List ℕ) → AppendsPart taken taken text
-nothing_written taken text = part_of taken taken [] text (whole_part taken taken [] (appends_none taken))
-
 -- the file was not counted, and nothing was written
 pub info_fails : (taken : Option (List ℕ)) (why : DecodeFault) (all rest bytes : List ℕ) → CountsAll (Err why) all rest → all ≡ bytes ++ rest
     → Stops Info taken taken (of_decoder why) all rest
 info_fails taken (decoder.Bad fault block offset) all rest bytes end is = (end, appends_none taken)
-info_fails taken decoder.ReadFault all rest bytes end is = record { reads = tt; read = bytes; parts = is; text = appends_none taken }
+info_fails taken decoder.ReadFault all rest bytes end is = record { reads = tt; read = bytes; parts = is; text = appends_none taken; front = nothing_written taken (info_text all) }
 info_fails taken decoder.WantMemory all rest bytes end is = nothing_written taken (info_text all)
 
 -- four lines, in the order in which they are written
@@ -71,7 +68,7 @@ pub replay_fails : (why : ShowFault) (pixels : Bool) (frames : Option FrameRange
 replay_fails (show.Bad fault block offset) pixels frames before after all rest is = ((is.end, is.unseen), is.text)
 replay_fails (show.NoSuchFrame first last) pixels frames before after all rest is =
     (record { range = is.range; end = is.end; unseen = is.unseen; first_is = is.first_is; last_is = is.last_is }, is.text)
-replay_fails show.ReadFault pixels frames before after all rest is = record { reads = tt; read = is.given; parts = is.parts; text = is.text }
+replay_fails show.ReadFault pixels frames before after all rest is = record { reads = tt; read = is.given; parts = is.parts; text = is.text; front = is.front }
 replay_fails show.SinkFault pixels frames before after all rest is = is
 replay_fails show.WantMemory pixels frames before after all rest is = is
 
@@ -85,7 +82,7 @@ pub trim_fails : (why : TrimFault) (r : FrameRange) (before after : Option (List
     → trim.Answers r.first r.last before after (Err why) all rest → Stops (Trim r) before after (of_trim why) all rest
 trim_fails (fault.Bad wrong block offset) r before after all rest is = ((is.end, is.outside), is.file)
 trim_fails (fault.NoSuchFrame first last) r before after all rest is = (record { end = is.end; outside = is.outside; first_is = is.low_is; last_is = is.high_is }, is.file)
-trim_fails fault.ReadFault r before after all rest is = record { reads = tt; read = is.given; parts = is.parts; text = is.file }
+trim_fails fault.ReadFault r before after all rest is = record { reads = tt; read = is.given; parts = is.parts; text = is.file; front = is.front }
 trim_fails fault.SinkFault r before after all rest is = is
 trim_fails fault.WantMemory r before after all rest is = is
 
@@ -121,11 +118,10 @@ text_first (Make n) before after bytes text = part_of before after [] (text_by (
 text_first Help before after bytes text = part_of before after [] (text_by Help bytes) (whole_part before after [] text)
 text_first Version before after bytes text = part_of before after [] (text_by Version bytes) (whole_part before after [] text)
 
-pub front_of : (c : Command) (before after : Option (List ℕ)) (end : Result Unit Stop) (all rest : List ℕ) → Ends c before after end all rest
-    → AppendsPart before after (text_by c all) ⊎ IsCutOff c before after all rest
-front_of c before after (Ok done) all rest is = inl (whole_part before after (text_by c all) is.text)
-front_of c before after (Err (BadFile fault block offset)) all rest is = inl (text_first c before after all is.1)
-front_of c before after (Err (NoSuchFrame first last)) all rest is = inl (text_first c before after all is.1)
-front_of c before after (Err ReadFault) all rest is = inr is
-front_of c before after (Err WriteFault) all rest is = inl is
-front_of c before after (Err WantMemory) all rest is = inl is
+pub front_of : (c : Command) (before after : Option (List ℕ)) (end : Result Unit Stop) (all rest : List ℕ) → Ends c before after end all rest → AppendsPart before after (text_by c all)
+front_of c before after (Ok done) all rest is = whole_part before after (text_by c all) is.text
+front_of c before after (Err (BadFile fault block offset)) all rest is = text_first c before after all is.1
+front_of c before after (Err (NoSuchFrame first last)) all rest is = text_first c before after all is.1
+front_of c before after (Err ReadFault) all rest is = is.front
+front_of c before after (Err WriteFault) all rest is = is
+front_of c before after (Err WantMemory) all rest is = is

@@ -19,6 +19,8 @@ pub record IsCutOff (c : Command) (before after : Option (List ℕ)) (bytes left
   pub read : List ℕ
   pub parts : bytes ≡ read ++ left
   pub text : Appends before after (text_before c read)
+  -- which is a front of the command's text
+  pub front : AppendsPart before after (text_by c bytes)
 
 -- why a command stopped, and what it wrote by then
 abbrev pub Stops : Command → Option (List ℕ) → Option (List ℕ) → Stop → List ℕ → List ℕ → Type 0

@@ -1,5 +1,5 @@
 -- How a run of the program ends.
-use Rattle.std.specs.Prelude.{◌≡◌, ◌⊎◌, ℕ, List, Result, Err, ⊤}
+use Rattle.std.specs.Prelude.{◌≡◌, ℕ, List, Result, Err, ⊤}
 use Rattle.std.specs.declared.option.Option.{Option}
 use Rattle.gfx_io.specs.Causes.{Rose}
 use Rattle.gfx_io.specs.Pieces.{AppendsPart}
@@ -10,7 +10,7 @@ use Rattle.gfx_cli.specs.declared.status.Status.TheVariants.{Done, WantMemory, U
 use Rattle.gfx_cli.specs.declared.stop.Stop.{Stop}
 use Rattle.gfx_cli.specs.declared.stop.Stop.TheVariants.{ReadFault as StoppedReading}
 use Rattle.gfx_cli.specs.Commands.{text_by}
-use Rattle.gfx_cli.specs.Ends.{Ends, IsCutOff}
+use Rattle.gfx_cli.specs.Ends.{Ends}
 use Rattle.gfx_cli.specs.Stop.{line_of}
 use Rattle.gfx_cli.specs.Text.{usage_line}
 use Rattle.gfx_cli.specs.Words.{IsNamed, IsOutside}
@@ -34,11 +34,11 @@ pub record Runs (words : List (List ℕ)) (left_old left_new taken_old taken_new
   pub named : IsNamed words command
   pub ends : IfTold left_old left_new (Ends command taken_old taken_new end)
 
--- the words name a command, and the sink took a front of what it writes, or what stands before the place where reading stopped
+-- the words name a command, and the sink took a front of what it writes
 pub record WritesFront (words : List (List ℕ)) (left_old left_new taken_old taken_new : Option (List ℕ)) : Type 0 where
   pub command : Command
   pub named : IsNamed words command
-  pub front : IfTold left_old left_new (λ bytes left. AppendsPart taken_old taken_new (text_by command bytes) ⊎ IsCutOff command taken_old taken_new bytes left)
+  pub front : IfTold left_old left_new (λ bytes left. AppendsPart taken_old taken_new (text_by command bytes))
 
 -- how often a source or a sink had failed before a call, and after it
 pub record Failures : Type 0 where

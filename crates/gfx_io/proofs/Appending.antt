@@ -32,3 +32,7 @@ part_of a b x y p =
 -- all of a part
 pub whole_part : (a b : Option (List ℕ)) (x : List ℕ) → Appends a b x → AppendsPart a b x
 whole_part a b x p = (length x, le_refl (length x), rw (take-length x) p)
+
+-- nothing of a text
+pub nothing_written : (a : Option (List ℕ)) (x : List ℕ) → AppendsPart a a x
+nothing_written a x = (0, omega arith, appends_none a)

@@ -1,5 +1,5 @@
 -- How showing ends, by what the decoder, the screen and the sink answer.
-use Rattle.std.proofs.Common.{◌≡◌, ◌-◌, ℕ, Bool, true, List, [], ◌∷◌, ◌++◌, codes, Option, None, Result, Ok, Err, refl, sym, ap, subst, ◌∙◌, arith}
+use Rattle.std.proofs.Common.{◌≡◌, ◌-◌, ℕ, Bool, true, List, [], ◌∷◌, ◌++◌, codes, Option, None, Result, Ok, Err, refl, sym, ap, subst, ◌∙◌}
 use Rattle.std.specs.Prelude.{OnOk, IfErr, unwrap_or}
 use Rattle.std.specs.Io.KnownBytes.{Appends}
 use Rattle.gfx_io.specs.Pieces.{AppendsPart}
@@ -20,7 +20,7 @@ use Rattle.gfx_decode.specs.declared.fault.DecodeFault.{DecodeFault}
 use Rattle.gfx_decode.specs.declared.fault.DecodeFault.TheVariants as decoder
 use Rattle.gfx_frames.specs.declared.lines.PrintFault.{PrintFault}
 use Rattle.gfx_frames.specs.declared.lines.PrintFault.TheVariants as printer
-use Rattle.gfx_io.proofs.Appending.{appends_none, part_then}
+use Rattle.gfx_io.proofs.Appending.{appends_none, nothing_written, part_then}
 use Rattle.gfx_play.specs.declared.asked.Asked.{Asked}
 use Rattle.gfx_play.specs.declared.asked.Asked.TheVariants as asked
 use Rattle.gfx_play.specs.declared.screen.Screen.{Screen}
@@ -56,6 +56,7 @@ cut_header a pixels taken all left g =
       lawful = ap (λ (j : Judged). j.end) judged ∙ sym (ap (λ (b : Blocks). b.end) g.blocks);
       unseen = ap (has_last a) shows;
       text = subst (λ fs. Appends taken taken (lines_of (record { minor = minor_of g.given; pixels = pixels }) (asked_of a fs))) (sym shows) (appends_none taken);
+      front = nothing_written taken (text_in a pixels all);
     }
 
 -- behind some blocks
@@ -73,12 +74,10 @@ cut_behind a pixels all stage screen left rest before after p none =
       unseen = ap (has_last a) shows ∙ p.unseen;
       text = subst (λ m. Appends before after (lines_of (record { minor = m; pixels = pixels }) (asked_of a (frames_in g.given)))) minor
           (subst (λ fs. Appends before after (lines_of (record { minor = minor_of all; pixels = pixels }) (asked_of a fs))) (sym shows) p.text);
+      front = played_front a pixels all stage screen left before after p;
     }
 
 -- ---- the header
-
-nothing_written : (taken : Option (List ℕ)) (text : List ℕ) → AppendsPart taken taken text
-nothing_written taken text = (0, omega arith, appends_none taken)
 
 pub header_fails : (a : Asked) (pixels : Bool) (taken : Option (List ℕ)) (why : DecodeFault) (old new : Option (List ℕ)) → IfTold old new (GivesHeader (Err why)) → StopsInHeader old new why →
     IfTold old new (Answers a pixels taken taken (Err (of_decoder why)))

@@ -64,6 +64,8 @@ pub record IsCut (a : Asked) (pixels : Bool) (before after : Option (List ℕ)) 
   pub lawful : end_of given ≡ (blocks_of given).end
   pub unseen : has_last a (frames_in given) ≡ false
   pub text : Appends before after (lines_in a pixels given)
+  -- which are the first lines of all
+  pub front : AppendsPart before after (text_in a pixels bytes)
 
 -- what is left follows the header and the first blocks of the file, up to the one that shows the last frame
 pub record IsBehindLast (a : Asked) (bytes left : List ℕ) : Type 0 where

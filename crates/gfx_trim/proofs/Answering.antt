@@ -1,5 +1,5 @@
 -- What the call answers, where it stops.
-use Rattle.std.proofs.Common.{◌≡◌, ◌≤◌, ◌-◌, ℕ, List, [], ◌∷◌, ◌++◌, Option, Some, None, Result, Ok, Err, refl, sym, subst, arith}
+use Rattle.std.proofs.Common.{◌≡◌, ◌≤◌, ◌-◌, ℕ, List, [], ◌∷◌, ◌++◌, Option, Some, None, Result, Ok, Err, refl, sym, subst}
 use Rattle.std.specs.Prelude.{unwrap_or}
 use Rattle.std.specs.Io.KnownBytes.{Appends}
 use Rattle.gfx_io.specs.Pieces.{AppendsPart}
@@ -24,7 +24,7 @@ use Rattle.gfx_trim.specs.Cutters.{Ends, Refuses, next_frame_of, text_by}
 use Rattle.gfx_trim.specs.Faults.{of_decoder}
 use Rattle.gfx_trim.specs.Trims.{Answers, Cutting, IsBadAt, IsWithout, KeepsIfDone}
 use Rattle.gfx_trim.specs.Written.{written}
-use Rattle.gfx_io.proofs.Appending.{appends_none}
+use Rattle.gfx_io.proofs.Appending.{nothing_written}
 use Rattle.gfx_trim.proofs.Files.{cut_bad, cut_clean, cut_done, cut_front, cut_front_more, cut_rule, cut_short, header_bad, header_short}
 
 -- an answer, and that the trimmed file keeps its frames
@@ -35,9 +35,6 @@ failed : (first last : ℕ) (before after : Option (List ℕ)) (why : TrimFault)
 failed first last before after why all left a = (a, λ fit. tt)
 
 -- ---- the header
-
-nothing_written : (taken : Option (List ℕ)) (text : List ℕ) → AppendsPart taken taken text
-nothing_written taken text = (0, omega arith, appends_none taken)
 
 pub header_fails : (first last : ℕ) (taken : Option (List ℕ)) (why : DecodeFault) (old new : Option (List ℕ)) → first ≤ last → IfTold old new (GivesHeader (Err why)) → StopsInHeader old new why →
     IfTold old new (Both first last taken taken (Err (of_decoder why)))

@@ -46,7 +46,7 @@ use Rattle.gfx_trim.specs.Numbers.{IsOutside}
 use Rattle.gfx_trim.specs.Phases.{IsPhase}
 use Rattle.gfx_trim.specs.Trims.{Cutting, IsBadAt, IsBehindLast, IsCut, IsDone, IsWithout, trimmed}
 use Rattle.gfx_trim.specs.Written.{has_effect, valid_from, valid_in, written, written_of}
-use Rattle.gfx_io.proofs.Appending.{appends_none, part_of, whole_part}
+use Rattle.gfx_io.proofs.Appending.{appends_none, nothing_written, part_of, whole_part}
 use Rattle.gfx_trim.proofs.Cutting.{quiet_reaches}
 use Rattle.gfx_trim.proofs.Growing.{grown, text_some, text_whole}
 use Rattle.gfx_trim.proofs.Judging.{valid_bad, valid_none, valid_on}
@@ -198,6 +198,13 @@ given_text first last m fed all left g valid =
     ∙ ap (λ (ws : List Whole). written_of m first last (valid_from [] ws)) (sym (append-nil fed))
     ∙ ap (written_of m first last) (valid_on fed [] [] valid ∙ ap (λ (ws : List Whole). fed ++ ws) (valid_none (history_of fed)) ∙ append-nil fed)
 
+-- wherever it stops, a front was written
+pub cut_front : (first last : ℕ) (all : List ℕ) (stage : Stage) (c : Cutter) (rest : List ℕ) (before after : Option (List ℕ)) → first ≤ last →
+    Cutting first last all stage c rest before after → AppendsPart before after (written first last all)
+cut_front first last all stage c rest before after ordered p =
+    let r = part_read first last all stage c rest before after ordered p in
+    front_of first last p.fed stage all rest before after p.fits r.valid (whole_part before after (written_of (minor_of all) first last p.fed) r.text)
+
 -- in what was given no block has a rule fault
 lawful_given : (fed : List Whole) (all left : List ℕ) (g : IsGiven fed all left) → is_valid (history_of fed) ≡ true → end_of g.given ≡ (blocks_of g.given).end
 lawful_given fed all left g valid = ap (λ (j : Judged). j.end) (judged_given fed all left g valid) ∙ ap (λ (b : Blocks). b.end) (sym g.blocks)
@@ -214,14 +221,8 @@ cut_short first last all stage c rest left before after ordered p none =
       lawful = lawful_given p.fed all left g r.valid;
       outside = subst (λ (j : Judged). IsOutside first last j.history) (sym (judged_given p.fed all left g r.valid)) r.outside;
       file = subst (Appends before after) (ap (λ m. written_of m first last p.fed) minor ∙ sym (given_text first last (minor_of g.given) p.fed all left g r.valid)) r.text;
+      front = cut_front first last all stage c rest before after ordered p;
     }
-
--- wherever it stops, a front was written
-pub cut_front : (first last : ℕ) (all : List ℕ) (stage : Stage) (c : Cutter) (rest : List ℕ) (before after : Option (List ℕ)) → first ≤ last →
-    Cutting first last all stage c rest before after → AppendsPart before after (written first last all)
-cut_front first last all stage c rest before after ordered p =
-    let r = part_read first last all stage c rest before after ordered p in
-    front_of first last p.fed stage all rest before after p.fits r.valid (whole_part before after (written_of (minor_of all) first last p.fed) r.text)
 
 -- also in a block without a fault
 pub cut_front_more : (first last : ℕ) (all : List ℕ) (old new : Stage) (c : Cutter) (left rest : List ℕ) (before middle after : Option (List ℕ)) (w : Whole) (p : Cutting first last all old c left before middle) →
@@ -366,4 +367,5 @@ header_short first last all left taken ordered g = record {
   lawful = lawful_given [] all left g refl;
   outside = subst (λ (j : Judged). IsOutside first last j.history) (sym (judged_given [] all left g refl)) (none_outside first last ordered);
   file = subst (Appends taken taken) (sym (given_text first last (minor_of g.given) [] all left g refl ∙ text_none (minor_of g.given) first last)) (appends_none taken);
+  front = nothing_written taken (written first last all);
 }

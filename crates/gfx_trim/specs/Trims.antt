@@ -65,6 +65,8 @@ pub record IsCut (first last : ℕ) (before after : Option (List ℕ)) (bytes le
   pub lawful : end_of given ≡ (blocks_of given).end
   pub outside : IsOutside first last (history_in given)
   pub file : Appends before after (written first last given)
+  -- which is a front of what is written of all
+  pub front : AppendsPart before after (written first last bytes)
 
 -- what was written, by the answer: the trimmed file, what stands of it before the end of the file, or a front of that
 abbrev pub Answers : (first last : ℕ) → Option (List ℕ) → Option (List ℕ) → Result Unit TrimFault → List ℕ → List ℕ → Type 0

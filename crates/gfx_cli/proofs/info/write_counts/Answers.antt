@@ -2,6 +2,7 @@ use Rattle.std.proofs.Common.{Ok, Err, sym, ap, subst, ◌∙◌}
 use Rattle.std.specs.Io.KnownBytes.{Appends}
 use Rattle.std.proofs.lemmas.Result.{err_from_is_err_and}
 use Rattle.gfx_io.specs.Pieces.{AppendsPart}
+use Rattle.gfx_io.proofs.Appending.{nothing_written}
 use Rattle.gfx_io.specs.Told.{IfTold}
 use Rattle.gfx_decode.proofs.Told.{told_if}
 use Rattle.gfx_words.specs.declared.command.Command.TheVariants.{Info}
@@ -9,7 +10,7 @@ use Rattle.gfx_cli.specs.Counts.{CountsAll}
 use Rattle.gfx_cli.specs.Ends.{Ends}
 use Rattle.gfx_cli.specs.Text.{info_text}
 use Rattle.gfx_cli.specs.declared.stop.Stop.TheVariants.{WantMemory, WriteFault}
-use Rattle.gfx_cli.proofs.Ending.{info_done, info_part, nothing_written}
+use Rattle.gfx_cli.proofs.Ending.{info_done, info_part}
 use Rattle.gfx_cli.proofs.info.write_counts.Goals as goal
 
 pub returns-in_err-text-clause-ends : goal.returns-in_err-text-clause-ends
