@@ -154,7 +154,14 @@ def begun(count):
 def fences(count):
     """So many fences that are created and end."""
     ids = range(1 << 20, (1 << 20) + count)
-    return [block for fence in ids for block in (call("CreateFence", device=3, fence=fence, flags=0), call("DestroyFence", device=3, fence=fence))]
+    return [
+        block
+        for fence in ids
+        for block in (
+            call("CreateFence", device=3, fence=fence, flags=0),
+            call("DestroyFence", device=3, fence=fence),
+        )
+    ]
 
 
 def buffers(count):

@@ -21,6 +21,7 @@ no_commands (_ ∷ cs) = false
 abbrev pub is_new : Buffer → Bool
 is_new b = is_initial b.state && b.flags == 0 && no_commands b.commands
 
+-- the object is a command buffer
 abbrev pub is_command_buffer : Object → Bool
 is_command_buffer o = kind_number (kind_of o.detail) == kind_number kind.CommandBuffer
 
