@@ -3,6 +3,7 @@ use Rattle.std.specs.Prelude.{ℕ, ◌+◌, ◌*◌, ◌/◌, ◌%◌, ◌==◌,
 use Rattle.std.specs.List.{list_any}
 use Rattle.std.specs.Option.{option_map_or}
 use Rattle.gfx_types.specs.Names.{format_of, texel_of}
+use Rattle.gfx_types.specs.declared.map_range.MapRange.{MapRange}
 use Rattle.gfx_model.specs.Events.{Event}
 use Rattle.gfx_model.specs.Steps.{Step, Object, Detail, Change, resources_of}
 use Rattle.gfx_model.specs.Steps.Detail.{a_queue, a_command_buffer, an_image}
@@ -83,6 +84,10 @@ pub record Binding : Type 0 where
 pub record Range : Type 0 where
   pub offset : ℕ
   pub length : ℕ
+
+-- these bytes as the program keeps them
+abbrev pub range_of : MapRange → Range
+range_of r = record { offset = r.offset; length = r.length }
 
 -- the memory and offset to which a resource was bound since it was created
 unfoldable pub bound : List Step → ℕ → Option Binding
