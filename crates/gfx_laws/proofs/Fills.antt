@@ -8,7 +8,8 @@ use Rattle.gfx_types.specs.declared.op.Place.TheVariants as place
 use Rattle.gfx_model.specs.Steps.{Change}
 use Rattle.gfx_model.specs.Steps.Change.{put}
 use Rattle.gfx_model.specs.Bytes.{byte, same_place, covers_byte}
-use Rattle.gfx_model.specs.Section.{Span, page_size, last_of, span_of, nonzero, page_fill, fills_of}
+use Rattle.gfx_model.specs.Limits.{page_size}
+use Rattle.gfx_model.specs.Section.{Span, last_of, span_of, nonzero, page_fill, fills_of}
 use Rattle.gfx_model.specs.Checks.{is_among}
 use Rattle.gfx_laws.specs.Lawful.{IsRising}
 use Rattle.gfx_laws.specs.Laws.{filled, IsSpanBelow, FillsGive}

@@ -8,6 +8,7 @@ use Rattle.gfx_types.specs.declared.names.Kind.{Kind}
 use Rattle.gfx_types.specs.declared.lists.Submit.{Submit}
 use Rattle.gfx_model.specs.Events.{Event}
 use Rattle.gfx_model.specs.Events.Event.{CmdPipelineBarrier, CmdCopyImage, CmdCopyBufferToImage, CmdCopyImageToBuffer, CmdClearColorImage}
+use Rattle.gfx_model.specs.Limits.{max_frame, max_live_objects, max_live_bytes, max_kept_commands, max_kept_bytes}
 use Rattle.gfx_model.specs.Questions.{State, Range, has_bit}
 use Rattle.gfx_model.specs.Steps.{Detail}
 use Rattle.gfx_model.specs.Steps.Detail.{an_image}
@@ -122,7 +123,7 @@ pub data Check : Type 0 where
   index_in is_acquired not_acquired presentable : (swapchain index : ℕ) → Check
   -- 27 unless all images are acquired
   all_acquired : (swapchain : ℕ) → Check
-  -- 28 if the frame number would be above 2 ^ 62
+  -- 28 if the frame number would be too high
   frame_room : Check
   -- outside the section: 19 unless the memory is mapped
   may_fill : (memory : ℕ) → Check
@@ -185,7 +186,7 @@ new_fault v earlier x =
 
 -- 28 if n more objects would be too many
 abbrev pub room_fault : View → ℕ → Option Fault
-room_fault v n = unless (nat_le (object_count v + n) 65536) LimitReached
+room_fault v n = unless (nat_le (object_count v + n) max_live_objects) LimitReached
 
 -- the ids are new one after another
 abbrev pub new_faults : View → List ℕ → List ℕ → Option Fault
@@ -244,7 +245,7 @@ broken v (of x p) = unless (parent_of v x == p) WrongParent
 broken v (near x p) = unless (device_of v x == device_of v p) WrongParent
 broken v (new earlier x) = new_fault v earlier x
 broken v (room n) = room_fault v n
-broken v (room_for n) = unless (nat_le (live_bytes v + n) (2 ^ 28)) LimitReached
+broken v (room_for n) = unless (nat_le (live_bytes v + n) max_live_bytes) LimitReached
 broken v (childless x) = unless (children v x == 0) HasChildren
 broken v (childless_but_queue x) = unless (children v x == (if is_some (queue_of v x) then 1 else 0)) HasChildren
 broken v (bare_surface x) = unless (not (has_swapchain v x)) HasChildren
@@ -264,7 +265,7 @@ broken v (recording cb) = unless (is_recording (v.buffer cb).state) CommandState
 broken v (not_recording cb) = unless (not (is_recording (v.buffer cb).state)) CommandState
 broken v (may_begin cb) = unless (is_initial (v.buffer cb).state || has_bit (pool_flags v cb) 2) PoolRule
 broken v (may_reset cb) = unless (has_bit (pool_flags v cb) 2) PoolRule
-broken v (fits n) = unless (nat_le (commands_kept v + 1) (2 ^ 20) && nat_le (bytes_kept v + n) (2 ^ 28)) LimitReached
+broken v (fits n) = unless (nat_le (commands_kept v + 1) max_kept_commands && nat_le (bytes_kept v + n) max_kept_bytes) LimitReached
 broken v (same_texel x y) = unless (texel v x == texel v y) FormatDiffers
 broken v (uint_format image) = unless (is_among (format_at v image) (13 ∷ 41 ∷ 98 ∷ [])) FormatDiffers
 broken v (texel_divides image offset) = unless (offset % texel v image == 0) BadValue
@@ -283,7 +284,7 @@ broken v (presentable swapchain index) =
     unless (option_map_or (λ image. v.layout image == 1000001002) (image_at v swapchain index) false) LayoutDiffers
 broken v (all_acquired swapchain) =
     unless (list_all (v.acquired swapchain) (range_with_len 0 (images_in v swapchain))) ResultDiffers
-broken v frame_room = unless (nat_le v.next_frame (2 ^ 62)) LimitReached
+broken v frame_room = unless (nat_le v.next_frame max_frame) LimitReached
 broken v (may_fill memory) = unless (is_some v.section || is_some (v.mapped memory)) MapState
 broken v (fill_in memory offset n) =
     unless (if is_some v.section then nat_le (offset + n) (size_of v memory)

@@ -9,6 +9,7 @@ use Rattle.gfx_model.specs.Events.{Event}
 use Rattle.gfx_model.specs.Events.Event.{CreateInstance, CreateHeadlessSurfaceEXT, CreateDevice, GetDeviceQueue, AllocateMemory, FillMemory, MapMemory, CreateBuffer, BindBufferMemory, CreateImage, BindImageMemory, InitImage, CreateSwapchainKHR, GetSwapchainImagesKHR, SetSwapchainState, CreateFence, CreateSemaphore, SetSemaphoreState, CreateCommandPool, AllocateCommandBuffers, BeginCommandBuffer, EndCommandBuffer, BeginSection, EndSection}
 use Rattle.gfx_model.specs.Steps.{Detail, Change}
 use Rattle.gfx_model.specs.Steps.Detail.{an_instance, a_surface, a_device, a_queue, a_memory, a_buffer, an_image, a_pool, a_command_buffer, a_fence, a_semaphore, a_swapchain}
+use Rattle.gfx_model.specs.Limits.{page_size}
 use Rattle.gfx_model.specs.Questions.{State, Buffer, image_size}
 use Rattle.gfx_model.specs.Views.{View, is_live, is_usable, parent_of, fetched}
 use Rattle.gfx_model.specs.Bytes.{byte, bytes_at}
@@ -20,10 +21,6 @@ use Rattle.gfx_model.specs.History.{view, executed}
 pub record Span : Type 0 where
   pub at : ℕ
   pub length : ℕ
-
--- the bytes of a page
-abbrev pub page_size : ℕ
-page_size = 65536
 
 -- the last of a list that begins with x
 abbrev pub last_of : ℕ → List ℕ → ℕ

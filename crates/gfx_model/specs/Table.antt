@@ -12,6 +12,7 @@ use Rattle.gfx_types.specs.declared.lists.Submit.{Submit}
 use Rattle.gfx_model.specs.Events.{Event}
 use Rattle.gfx_model.specs.Events.Event.{CreateInstance, DestroyInstance, CreateHeadlessSurfaceEXT, DestroySurfaceKHR, CreateDevice, DestroyDevice, GetDeviceQueue, AllocateMemory, FreeMemory, MapMemory, UnmapMemory, CreateBuffer, DestroyBuffer, BindBufferMemory, CreateImage, DestroyImage, BindImageMemory, CreateCommandPool, DestroyCommandPool, ResetCommandPool, AllocateCommandBuffers, FreeCommandBuffers, BeginCommandBuffer, EndCommandBuffer, ResetCommandBuffer, CmdPipelineBarrier, CmdFillBuffer, CmdUpdateBuffer, CmdCopyBuffer, CmdCopyImage, CmdCopyBufferToImage, CmdCopyImageToBuffer, CmdClearColorImage, CreateFence, DestroyFence, ResetFences, WaitForFences, GetFenceStatus, CreateSemaphore, DestroySemaphore, QueueSubmit, QueueWaitIdle, DeviceWaitIdle, CreateSwapchainKHR, DestroySwapchainKHR, GetSwapchainImagesKHR, AcquireNextImageKHR, QueuePresentKHR, FillMemory, InitImage, SetSwapchainState, SetSemaphoreState, BeginSection, EndSection}
 use Rattle.gfx_model.specs.Spelling.{spelling, id_of}
+use Rattle.gfx_model.specs.Limits.{max_frame, max_list_length, max_extent, max_swapchain_images, max_regions, max_barriers, max_update, max_submits, max_semaphores, max_submit_buffers, max_presents, bind_alignment}
 use Rattle.gfx_model.specs.Questions.{image_size}
 use Rattle.gfx_model.specs.Checks.{Check, turns_of, is_among, is_distinct}
 use Rattle.gfx_model.specs.Checks.Turn.{wait}
@@ -116,7 +117,7 @@ mixed_region_in buffer image r =
 -- the regions of a copy between a buffer and an image
 abbrev pub mixed_regions : ℕ → ℕ → List MixedRegion → List Check
 mixed_regions buffer image regions =
-    between 1 256 regions ++ flat_map (mixed_region_value image) regions ++ flat_map (mixed_region_in buffer image) regions
+    between 1 max_regions regions ++ flat_map (mixed_region_value image) regions ++ flat_map (mixed_region_in buffer image) regions
 
 -- all are live, and then all are near
 abbrev pub near_each : Kind → ℕ → List ℕ → List Check
@@ -124,7 +125,7 @@ near_each k x ys = map (live k) ys ++ map (λ y. near y x) ys
 
 -- the limits of a submit
 abbrev pub submit_lengths : Submit → List Check
-submit_lengths s = between 0 16 s.waits ++ between 0 64 s.cbs ++ between 0 16 s.signals
+submit_lengths s = between 0 max_semaphores s.waits ++ between 0 max_submit_buffers s.cbs ++ between 0 max_semaphores s.signals
 
 -- a submit's waits, command buffers and signals in turn
 abbrev pub submit_near : ℕ → Submit → List Check
@@ -178,45 +179,45 @@ row_of (CreateBuffer device buffer size usage) =
 row_of (DestroyBuffer device buffer) = of_device kind.Buffer device buffer
 row_of (BindBufferMemory device buffer memory offset) =
     live kind.Device device ∷ live kind.Buffer buffer ∷ live kind.Memory memory ∷ of buffer device ∷ of memory device
-    ∷ unbound buffer ∷ value (divides 16 offset) ∷ rests_in buffer memory offset ∷ []
+    ∷ unbound buffer ∷ value (divides bind_alignment offset) ∷ rests_in buffer memory offset ∷ []
 row_of (CreateImage device image format width height usage) =
     made kind.Device device image
     ++ value (is_some (format_of format) && is_positive width && is_positive height && is_positive usage)
-    ∷ limit (nat_le width 4096 && nat_le height 4096) ∷ room 1 ∷ []
+    ∷ limit (nat_le width max_extent && nat_le height max_extent) ∷ room 1 ∷ []
 row_of (DestroyImage device image) = of_device kind.Image device image
 row_of (BindImageMemory device image memory offset) =
     live kind.Device device ∷ live kind.Image image ∷ live kind.Memory memory ∷ of image device ∷ of memory device
-    ∷ unbound image ∷ value (divides 16 offset) ∷ rests_in image memory offset ∷ []
+    ∷ unbound image ∷ value (divides bind_alignment offset) ∷ rests_in image memory offset ∷ []
 row_of (CreateCommandPool device pool flags) = made kind.Device device pool ++ value (nat_le flags 3) ∷ room 1 ∷ []
 row_of (DestroyCommandPool device pool) = of_device kind.Pool device pool
 row_of (ResetCommandPool device pool) = of_device kind.Pool device pool
 row_of (AllocateCommandBuffers device pool buffers) =
-    of_device kind.Pool device pool ++ between 1 65536 buffers ++ new_each [] buffers ++ room (length buffers) ∷ []
+    of_device kind.Pool device pool ++ between 1 max_list_length buffers ++ new_each [] buffers ++ room (length buffers) ∷ []
 row_of (FreeCommandBuffers device pool buffers) =
-    of_device kind.Pool device pool ++ between 1 65536 buffers ++ live_once kind.CommandBuffer [] buffers
+    of_device kind.Pool device pool ++ between 1 max_list_length buffers ++ live_once kind.CommandBuffer [] buffers
     ++ map (λ cb. of cb pool) buffers
 row_of (BeginCommandBuffer cb flags) =
     live kind.CommandBuffer cb ∷ value (is_among flags (0 ∷ 1 ∷ 4 ∷ 5 ∷ [])) ∷ not_recording cb ∷ may_begin cb ∷ []
 row_of (EndCommandBuffer cb) = live kind.CommandBuffer cb ∷ recording cb ∷ []
 row_of (ResetCommandBuffer cb) = live kind.CommandBuffer cb ∷ may_reset cb ∷ []
 row_of (CmdPipelineBarrier cb barriers) = recorded cb (CmdPipelineBarrier cb barriers)
-    (between 0 256 barriers ++ flat_map (λ b. res kind.Image cb b.image) barriers ++ map barrier_value barriers)
+    (between 0 max_barriers barriers ++ flat_map (λ b. res kind.Image cb b.image) barriers ++ map barrier_value barriers)
 row_of (CmdFillBuffer cb buffer offset size word) = recorded cb (CmdFillBuffer cb buffer offset size word)
     (res kind.Buffer cb buffer
     ++ dst buffer ∷ value (divides 4 offset && (size == whole || nat_le 4 size && divides 4 size)) ∷ span buffer offset size)
 row_of (CmdUpdateBuffer cb buffer offset bytes) = recorded cb (CmdUpdateBuffer cb buffer offset bytes)
     (res kind.Buffer cb buffer
     ++ dst buffer
-    ∷ value (divides 4 offset && divides 4 (length bytes) && nat_le 4 (length bytes) && nat_le (length bytes) 65536)
+    ∷ value (divides 4 offset && divides 4 (length bytes) && nat_le 4 (length bytes) && nat_le (length bytes) max_update)
     ∷ ends_in buffer (offset + length bytes) ∷ [])
 row_of (CmdCopyBuffer cb source target regions) = recorded cb (CmdCopyBuffer cb source target regions)
-    (copied cb kind.Buffer source kind.Buffer target ++ between 1 256 regions
+    (copied cb kind.Buffer source kind.Buffer target ++ between 1 max_regions regions
     ++ map (λ r. value (is_positive r.size)) regions ++ flat_map (buffer_region_in source target) regions)
 row_of (CmdCopyImage cb source source_layout target target_layout regions) =
     recorded cb (CmdCopyImage cb source source_layout target target_layout regions)
     (copied cb kind.Image source kind.Image target
     ++ value (is_among source_layout (6 ∷ 1 ∷ []) && is_among target_layout (7 ∷ 1 ∷ [])) ∷ same_texel source target
-    ∷ between 1 256 regions
+    ∷ between 1 max_regions regions
     ++ map (λ r. value (is_positive r.width && is_positive r.height)) regions ++ flat_map (image_region_in source target) regions)
 row_of (CmdCopyBufferToImage cb source target layout regions) = recorded cb (CmdCopyBufferToImage cb source target layout regions)
     (copied cb kind.Buffer source kind.Image target
@@ -229,9 +230,9 @@ row_of (CmdClearColorImage cb image layout c0 c1 c2 c3) = recorded cb (CmdClearC
 row_of (CreateFence device fence flags) = made kind.Device device fence ++ value (nat_le flags 1) ∷ room 1 ∷ []
 row_of (DestroyFence device fence) = of_device kind.Fence device fence
 row_of (ResetFences device fences) =
-    live kind.Device device ∷ between 1 65536 fences ++ map (live kind.Fence) fences ++ map (λ f. of f device) fences
+    live kind.Device device ∷ between 1 max_list_length fences ++ map (live kind.Fence) fences ++ map (λ f. of f device) fences
 row_of (WaitForFences device fences wait_all answer) =
-    live kind.Device device ∷ between 1 65536 fences ++ map (live kind.Fence) fences ++ map (λ f. of f device) fences
+    live kind.Device device ∷ between 1 max_list_length fences ++ map (live kind.Fence) fences ++ map (λ f. of f device) fences
     ++ value (nat_le wait_all 1 && is_among answer (0 ∷ 2 ∷ []))
     ∷ (if wait_all == 1 then tells_all (answer == 0) fences else tells_some (answer == 0) fences) ∷ []
 row_of (GetFenceStatus device fence answer) =
@@ -239,7 +240,7 @@ row_of (GetFenceStatus device fence answer) =
 row_of (CreateSemaphore device semaphore) = made kind.Device device semaphore ++ room 1 ∷ []
 row_of (DestroySemaphore device semaphore) = of_device kind.Semaphore device semaphore
 row_of (QueueSubmit queue submits fence) =
-    live kind.Queue queue ∷ between 0 16 submits ++ flat_map submit_lengths submits
+    live kind.Queue queue ∷ between 0 max_submits submits ++ flat_map submit_lengths submits
     ++ flat_map (submit_near queue) submits
     ++ (if fence == 0 then [] else live kind.Fence fence ∷ near fence queue ∷ [])
     ++ must CommandState (is_distinct (flat_map (λ s. s.cbs) submits)) ∷ in_turn (turns_of submits fence) ∷ []
@@ -248,7 +249,7 @@ row_of (DeviceWaitIdle device) = live kind.Device device ∷ []
 row_of (CreateSwapchainKHR device swapchain surface images format width height usage) =
     live kind.Device device ∷ live kind.Surface surface ∷ same_instance device surface ∷ new [] swapchain ∷ free_surface surface
     ∷ value (is_positive images && is_positive width && is_positive height && is_positive usage && is_some (format_of format))
-    ∷ limit (nat_le images 16 && nat_le width 4096 && nat_le height 4096)
+    ∷ limit (nat_le images max_swapchain_images && nat_le width max_extent && nat_le height max_extent)
     ∷ room 1 ∷ room_for (images * image_size format width height) ∷ []
 row_of (DestroySwapchainKHR device swapchain) = of_device kind.Swapchain device swapchain
 row_of (GetSwapchainImagesKHR device swapchain images) =
@@ -258,8 +259,8 @@ row_of (AcquireNextImageKHR device swapchain semaphore fence index answer) =
     ∷ to_signal kind.Semaphore device semaphore ++ to_signal kind.Fence device fence
     ++ value (nat_le answer 1) ∷ acquire_answer swapchain index answer
 row_of (QueuePresentKHR queue waits presents) =
-    live kind.Queue queue ∷ between 0 16 waits ++ near_each kind.Semaphore queue waits
-    ++ between 1 8 presents ++ near_each kind.Swapchain queue (map (λ p. p.swapchain) presents)
+    live kind.Queue queue ∷ between 0 max_semaphores waits ++ near_each kind.Semaphore queue waits
+    ++ between 1 max_presents presents ++ near_each kind.Swapchain queue (map (λ p. p.swapchain) presents)
     ++ value (is_distinct (map (λ p. p.swapchain) presents))
     ∷ map (λ p. index_in p.swapchain p.index) presents
     ++ map (λ p. is_acquired p.swapchain p.index) presents
@@ -272,7 +273,7 @@ row_of (InitImage image layout bytes) =
 row_of (SetSwapchainState swapchain acquired) =
     live kind.Swapchain swapchain ∷ one_each swapchain (length acquired) ∷ map (λ a. value (nat_le a 1)) acquired
 row_of (SetSemaphoreState semaphore signalled) = live kind.Semaphore semaphore ∷ value (nat_le signalled 1) ∷ []
-row_of (BeginSection frame) = at_start ∷ value (is_positive frame && nat_le frame (2 ^ 62)) ∷ []
+row_of (BeginSection frame) = at_start ∷ value (is_positive frame && nat_le frame max_frame) ∷ []
 row_of (EndSection frame) = inside ∷ ends_frame frame ∷ []
 
 -- all checks of an event
