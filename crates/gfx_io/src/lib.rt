@@ -5,10 +5,8 @@ mod fields;
 mod memory;
 mod outside;
 mod standard;
-#[cfg(test)]
-mod tests;
 
-pub use fields::{put_u32, put_u64, take_u32, take_u64};
+pub use fields::{WantMemory, put_u32, put_u64, take_u32, take_u64};
 pub use memory::{MemSink, MemSource};
 pub use outside::{Failed, Sink, Source, fill, write_whole};
 pub use standard::{StdSink, StdSource};

@@ -32,6 +32,8 @@ impl<R: Read> Source for StdSource<R> {
 
     ghost faults = { λ s. s };
 
+    ghost are_bytes = { λ _. tt };
+
     fn read(&mut self, into: &mut [u8]) -> Result<usize, Failed> {
         match self.reader.read(into) {
             Ok(count) => Ok(count),

@@ -1,5 +1,6 @@
 //! A frame is written, or its blocks are, before what stands behind it is read.
 ghost use Rattle.std.specs.Prelude.{None};
+ghost use Rattle.gfx_io.specs.Memory.{sink_faults};
 
 use crate::cuts::first_cut;
 use crate::files::{ENDS, NEXT_FRAME, THREE_SHOWN, three_frames};
@@ -25,6 +26,8 @@ impl<'a> Source for Held<'a> {
 
     ghost faults = { λ s. s.faults };
 
+    ghost are_bytes = { λ _. tt };
+
     fn read(&mut self, into: &mut [u8]) -> Result<usize, Failed> {
         if self.at >= ENDS[0] && self.written.load(Ordering::SeqCst) < self.wanted {
             self.faults = self.faults.saturating_add(1);
@@ -48,7 +51,7 @@ struct Counted<'a> {
 impl<'a> Sink for Counted<'a> {
     ghost taken = { λ _. None };
 
-    ghost faults = { λ s. s.sink.faults };
+    ghost faults = { λ s. sink_faults s.sink };
 
     fn write(&mut self, piece: &[u8]) -> Result<usize, Failed> {
         let count = self.sink.write(piece)?;

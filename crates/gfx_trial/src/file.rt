@@ -1,5 +1,6 @@
 //! A file in memory, as a source.
-ghost use Rattle.std.specs.Prelude.{◌≡◌, Some};
+ghost use Rattle.std.specs.Prelude.{◌≡◌, ◌<◌, Some};
+ghost use Rattle.std.specs.List.{All};
 
 use gfx_io::{Failed, Source};
 
@@ -7,12 +8,15 @@ use gfx_io::{Failed, Source};
 #[derive(Drop)]
 pub(crate) struct FileBytes<'a> {
     pub rest: &'a [u8],
+    ghost are_bytes: { All (λ b. b < 256) rest.now },
 }
 
 impl Source for FileBytes<'_> {
     ghost left = { λ s. Some s.rest.now };
 
     ghost faults = { λ _. 0 };
+
+    ghost are_bytes = { λ s. s.are_bytes };
 
     fn read(&mut self, into: &mut [u8]) -> Result<usize, Failed> {
         let count = into.len().min(self.rest.len());
