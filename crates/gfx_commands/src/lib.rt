@@ -12,6 +12,3 @@ mod uses;
 pub use recorded::Recorded;
 pub use recording::CbState;
 pub use recordings::{Recordings, Totals};
-
-#[cfg(test)]
-mod tests;

@@ -9,8 +9,3 @@ mod state;
 pub use device::Device;
 pub use op::{DeviceOp, Handle};
 pub use state::StateBytes;
-
-#[cfg(test)]
-mod plain_tests;
-#[cfg(test)]
-mod tests;

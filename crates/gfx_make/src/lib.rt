@@ -7,8 +7,6 @@ mod file;
 mod frame;
 mod put;
 mod setup;
-#[cfg(test)]
-mod tests;
 
 pub use file::make_file;
 

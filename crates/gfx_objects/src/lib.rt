@@ -8,6 +8,3 @@ mod objects;
 
 pub use object::{Binding, Detail, MapRange, Object, Window};
 pub use objects::Objects;
-
-#[cfg(test)]
-mod tests;

@@ -13,8 +13,6 @@ mod shared;
 pub use bytes::{Bytes, Span};
 pub use error::WantMemory;
 
-#[cfg(test)]
-mod tests;
 
 /// The fills of bytes lie within them and, written over zeros, give them back.
 pub fn fills_give_bytes()

@@ -9,8 +9,6 @@ mod lists;
 mod read;
 mod records;
 mod table;
-#[cfg(test)]
-mod tests;
 mod write;
 mod write_lists;
 mod write_records;

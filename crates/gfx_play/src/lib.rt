@@ -5,8 +5,6 @@ mod asked;
 mod fault;
 mod play;
 mod screen;
-#[cfg(test)]
-mod tests;
 
 pub use asked::Asked;
 pub use fault::ShowFault;

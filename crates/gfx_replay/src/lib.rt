@@ -19,6 +19,3 @@ pub use shown::{ShownFrame, ShownPicture};
 pub fn places_are_stored()
     ensures { PlacesAreStored }
 {}
-
-#[cfg(test)]
-mod tests;

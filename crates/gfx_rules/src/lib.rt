@@ -30,6 +30,3 @@ mod values;
 
 pub use answers::Answers;
 pub use effects::fault_of;
-
-#[cfg(test)]
-mod tests;

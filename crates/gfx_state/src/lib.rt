@@ -15,8 +15,6 @@ mod resource;
 mod section;
 mod state;
 mod swapchain;
-#[cfg(test)]
-mod tests;
 mod writer;
 
 pub use fault::StateFault;

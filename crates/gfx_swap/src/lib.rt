@@ -7,6 +7,3 @@ mod swapchains;
 
 pub use signals::Sync;
 pub use swapchains::Swaps;
-
-#[cfg(test)]
-mod tests;

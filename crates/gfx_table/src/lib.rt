@@ -10,6 +10,3 @@ mod used;
 pub use change::RowChange;
 pub use ordered::Table;
 pub use used::UsedIds;
-
-#[cfg(test)]
-mod tests;

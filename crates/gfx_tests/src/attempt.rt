@@ -1,5 +1,4 @@
-//! Effects that one tracker is given in order, for limits that only long histories reach. The plain evaluator would run
-//! out of stack on these.
+//! Effects that one tracker is given in order, some of them many times.
 
 use crate::entry::Entry;
 use crate::histories::{History, entries_in};
@@ -35,17 +34,23 @@ macro_rules! attempts {
 
 pub(crate) use attempts;
 
+/// Entries that are taken, once each.
+fn push_taken(all: &mut Vec<Attempt>, entries: &[Entry]) -> Result<(), Fail> {
+    'entries: for entry in entries {
+        all.push(Attempt {
+            times: 1,
+            effect: *entry,
+            fault: None,
+        })?;
+    }
+    Ok(())
+}
+
 /// The attempts of histories, one after another, and then these.
 fn joined(alloc: Global, after: &[History], attempts: &[Attempt]) -> Result<Vec<Attempt>, Fail> {
     let mut all = Vec::new(alloc);
     'histories: for history in after {
-        'entries: for entry in entries_in(*history) {
-            all.push(Attempt {
-                times: 1,
-                effect: *entry,
-                fault: None,
-            })?;
-        }
+        push_taken(&mut all, entries_in(*history))?;
     }
     all.extend_from_slice(attempts)?;
     Ok(all)
@@ -95,6 +100,17 @@ fn try_each(
     }
 }
 
+/// A new tracker is given the effects of all attempts.
+fn try_new(rt: &impl Abort, alloc: Global, all: &[Attempt]) -> Result<(), Fail> {
+    let entries = effects_in(alloc, all)?;
+    let fields = spelled(alloc, entries.as_slice())?;
+    let effects = effects_of(alloc, entries.as_slice(), fields.as_slice())?;
+    let mut tracker = Tracker::new(alloc);
+    let mut ops = OpList::of(Vec::new(alloc));
+    try_each(rt, &mut tracker, &mut ops, all, effects.as_slice());
+    Ok(())
+}
+
 /// A new tracker is given the effects of histories, and then those of the attempts.
 pub fn try_in_order(
     rt: &impl Abort,
@@ -103,17 +119,12 @@ pub fn try_in_order(
     attempts: &[Attempt],
 ) -> Result<(), Fail> {
     let all = joined(alloc, after, attempts)?;
-    let entries = effects_in(alloc, all.as_slice())?;
-    let fields = spelled(alloc, entries.as_slice())?;
-    let effects = effects_of(alloc, entries.as_slice(), fields.as_slice())?;
-    let mut tracker = Tracker::new(alloc);
-    let mut ops = OpList::of(Vec::new(alloc));
-    try_each(
-        rt,
-        &mut tracker,
-        &mut ops,
-        all.as_slice(),
-        effects.as_slice(),
-    );
-    Ok(())
+    try_new(rt, alloc, all.as_slice())
+}
+
+/// A new tracker takes all effects of a capture.
+pub fn take_all(rt: &impl Abort, alloc: Global, capture: &[Entry]) -> Result<(), Fail> {
+    let mut all = Vec::new(alloc);
+    push_taken(&mut all, capture)?;
+    try_new(rt, alloc, all.as_slice())
 }

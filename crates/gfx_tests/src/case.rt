@@ -2,9 +2,9 @@
 
 use crate::entry::Entry;
 use crate::histories::{History, entries_in};
-use crate::judge::{Broken, Judge, Plain, Tracked};
 use crate::reading::{effects_of, spelled};
-use gfx_types::Fault;
+use gfx_tracker::{ApplyFault, Tracker};
+use gfx_types::{Effect, Fault, OpList};
 use std::alloc::Global;
 use std::process::Abort;
 use std::test::Fail;
@@ -68,31 +68,55 @@ fn entries_of(alloc: Global, case: &Case) -> Result<Vec<Entry>, Fail> {
     Ok(all)
 }
 
-/// Whether the judge finds just the fault of the case, and none before it.
-fn holds<J: Judge>(rt: &impl Abort, alloc: Global, case: &Case) -> Result<bool, Fail> {
+/// The first effect with a fault, counted from 0, and that fault.
+#[derive(Clone, Copy, Debug, PartialEq, Eq)]
+struct Broken {
+    at: usize,
+    fault: Fault,
+}
+
+/// What a new tracker refuses first. It has to tell it beforehand, and to leave the operations as they were.
+fn first_refused(
+    rt: &impl Abort,
+    alloc: Global,
+    effects: &[Effect<'_>],
+) -> Result<Option<Broken>, Fail> {
+    let mut tracker = Tracker::new(alloc);
+    let mut ops = OpList::of(Vec::new(alloc));
+    'effects: for (at, effect) in effects.iter().enumerate() {
+        let length = ops.items().len();
+        let told = tracker.fault_of(effect);
+        match tracker.apply(effect, &mut ops) {
+            Ok(_) => assert_eq!(rt; told, None),
+            Err(ApplyFault::Rule(fault)) => {
+                assert_eq!(rt; (told, ops.items().len()), (Some(fault), length));
+                return Ok(Some(Broken { at, fault }));
+            }
+            Err(ApplyFault::WantMemory) => return Err("no memory".into()),
+        }
+    }
+    Ok(None)
+}
+
+/// Whether the tracker finds just the fault of the case, and none before it.
+fn holds(rt: &impl Abort, alloc: Global, case: &Case) -> Result<bool, Fail> {
     let entries = entries_of(alloc, case)?;
     let fields = spelled(alloc, entries.as_slice())?;
     let effects = effects_of(alloc, entries.as_slice(), fields.as_slice())?;
-    let found = J::first_fault(rt, alloc, effects.as_slice())?;
+    let found = first_refused(rt, alloc, effects.as_slice())?;
     let last = entries.len().saturating_sub(1);
     Ok(found == case.fault.map(|fault| Broken { at: last, fault }))
 }
 
-/// Tries all cases with a judge, and names those in which it says something else.
-pub fn try_all<J: Judge>(rt: &impl Abort, alloc: Global, cases: &[Case]) -> Result<(), Fail> {
+/// Tries all cases, and names those in which the tracker says something else.
+pub fn try_all(rt: &impl Abort, alloc: Global, cases: &[Case]) -> Result<(), Fail> {
     let mut wrong = String::new(alloc);
     'cases: for case in cases {
-        if !holds::<J>(rt, alloc, case)? {
+        if !holds(rt, alloc, case)? {
             wrong.push_str(case.name)?;
             wrong.push_str("; ")?;
         }
     }
     assert!(rt; wrong.is_empty(), "not so: {wrong}");
     Ok(())
-}
-
-/// Tries all cases with the plain evaluator, and then with the tracker.
-pub fn try_both(rt: &impl Abort, alloc: Global, cases: &[Case]) -> Result<(), Fail> {
-    try_all::<Plain>(rt, alloc, cases)?;
-    try_all::<Tracked>(rt, alloc, cases)
 }

@@ -1,33 +1,15 @@
-//! Tests that cross crates: after sequences of calls and of effects the keepers and the tracker answer what the plain
-//! evaluator says of the same, and each check of the table of calls is broken by one effect after a history that fits.
+//! Tests of the rules: each check of the table of calls is broken by one effect after a history that fits, and the tracker
+//! answers just its fault; captures without a fault are taken whole; limits are reached, and what is given back makes room.
 #![tactic(auto)]
 
 #[cfg(test)]
-mod act;
-#[cfg(test)]
 mod attempt;
-#[cfg(test)]
-mod capture;
 #[cfg(test)]
 mod case;
 #[cfg(test)]
-mod compared;
-#[cfg(test)]
 mod entry;
 #[cfg(test)]
-mod followed;
-#[cfg(test)]
 mod histories;
-#[cfg(test)]
-mod judge;
-#[cfg(test)]
-mod keepers;
-#[cfg(test)]
-mod mixed;
-#[cfg(test)]
-mod operations;
-#[cfg(test)]
-mod probes;
 #[cfg(test)]
 mod reading;
 #[cfg(test)]
@@ -36,7 +18,5 @@ mod recorded;
 mod rules;
 #[cfg(test)]
 mod runs;
-#[cfg(test)]
-mod sequences;
 #[cfg(test)]
 mod table;

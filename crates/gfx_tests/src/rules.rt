@@ -1,122 +1,99 @@
-//! All cases, group by group, judged by the plain evaluator and by the tracker, or by the tracker alone.
+//! All cases of the table, and the limits that only long histories reach.
 
-use crate::attempt::try_in_order;
-use crate::case::{try_all, try_both};
+use crate::attempt::{take_all, try_in_order};
+use crate::case::{Case, try_all};
 use crate::histories::History;
-use crate::judge::Tracked;
+use crate::runs;
 use crate::table::*;
+use std::alloc::Global;
+use std::process::Abort;
 use std::test::Fail;
 
-#[test]
-fn instances_surfaces_devices_and_queues(rt: HostRuntime) -> Result<(), Fail> {
-    let alloc = rt.alloc();
-    try_both(&rt, alloc, &objects::BROKEN)?;
-    try_both(&rt, alloc, &objects::EARLIER)?;
-    try_both(&rt, alloc, &objects::GOOD)
+fn try_groups(rt: &impl Abort, alloc: Global, groups: &[&[Case]]) -> Result<(), Fail> {
+    'groups: for cases in groups {
+        try_all(rt, alloc, *cases)?;
+    }
+    Ok(())
 }
 
 #[test]
-fn memory_and_its_maps(rt: HostRuntime) -> Result<(), Fail> {
-    let alloc = rt.alloc();
-    try_both(&rt, alloc, &memory::BROKEN)?;
-    try_both(&rt, alloc, &memory::EARLIER)?;
-    try_both(&rt, alloc, &memory::GOOD)
+fn each_check_of_objects_and_commands_is_broken(rt: HostRuntime) -> Result<(), Fail> {
+    let groups: [&[Case]; 10] = [
+        &objects::BROKEN,
+        &memory::BROKEN,
+        &buffers::BROKEN,
+        &resources::BROKEN,
+        &pools::POOLS,
+        &pools::RECORDED,
+        &commands::BROKEN,
+        &copies::BROKEN,
+        &image_copies::TO_IMAGES,
+        &image_copies::TO_BUFFERS,
+    ];
+    try_groups(&rt, rt.alloc(), &groups)
 }
 
 #[test]
-fn buffers(rt: HostRuntime) -> Result<(), Fail> {
-    let alloc = rt.alloc();
-    try_both(&rt, alloc, &buffers::BROKEN)?;
-    try_both(&rt, alloc, &buffers::EARLIER)?;
-    try_both(&rt, alloc, &buffers::GOOD)
+fn each_check_of_queues_and_sections_is_broken(rt: HostRuntime) -> Result<(), Fail> {
+    let groups: [&[Case]; 7] = [
+        &signals::BROKEN,
+        &submits::BROKEN,
+        &swapchains::BROKEN,
+        &presents::BROKEN,
+        &metadata::BROKEN,
+        &metadata::OUTSIDE,
+        &limits::LISTS,
+    ];
+    try_groups(&rt, rt.alloc(), &groups)
 }
 
 #[test]
-fn images(rt: HostRuntime) -> Result<(), Fail> {
-    let alloc = rt.alloc();
-    try_both(&rt, alloc, &resources::BROKEN)?;
-    try_both(&rt, alloc, &resources::EARLIER)?;
-    try_both(&rt, alloc, &resources::GOOD)
+fn of_two_broken_checks_the_earlier_one_is_told(rt: HostRuntime) -> Result<(), Fail> {
+    let groups: [&[Case]; 12] = [
+        &objects::EARLIER,
+        &memory::EARLIER,
+        &buffers::EARLIER,
+        &resources::EARLIER,
+        &pools::EARLIER,
+        &commands::EARLIER,
+        &copies::EARLIER,
+        &image_copies::EARLIER,
+        &signals::EARLIER,
+        &submits::EARLIER,
+        &swapchains::EARLIER,
+        &presents::EARLIER,
+    ];
+    try_groups(&rt, rt.alloc(), &groups)?;
+    try_all(&rt, rt.alloc(), &metadata::EARLIER)
 }
 
 #[test]
-fn pools_and_command_buffers(rt: HostRuntime) -> Result<(), Fail> {
-    let alloc = rt.alloc();
-    try_both(&rt, alloc, &pools::POOLS)?;
-    try_both(&rt, alloc, &pools::RECORDED)?;
-    try_both(&rt, alloc, &pools::EARLIER)?;
-    try_both(&rt, alloc, &pools::GOOD)
+fn effects_that_break_no_check_are_taken(rt: HostRuntime) -> Result<(), Fail> {
+    let groups: [&[Case]; 12] = [
+        &objects::GOOD,
+        &memory::GOOD,
+        &buffers::GOOD,
+        &resources::GOOD,
+        &pools::GOOD,
+        &commands::GOOD,
+        &copies::GOOD,
+        &image_copies::GOOD,
+        &signals::GOOD,
+        &submits::GOOD,
+        &swapchains::GOOD,
+        &presents::GOOD,
+    ];
+    try_groups(&rt, rt.alloc(), &groups)?;
+    try_all(&rt, rt.alloc(), &metadata::GOOD)
 }
 
 #[test]
-fn barriers_fills_updates_and_clears(rt: HostRuntime) -> Result<(), Fail> {
-    let alloc = rt.alloc();
-    try_both(&rt, alloc, &commands::BROKEN)?;
-    try_both(&rt, alloc, &commands::EARLIER)?;
-    try_both(&rt, alloc, &commands::GOOD)
-}
-
-#[test]
-fn copies_between_buffers_and_between_images(rt: HostRuntime) -> Result<(), Fail> {
-    let alloc = rt.alloc();
-    try_both(&rt, alloc, &copies::BROKEN)?;
-    try_both(&rt, alloc, &copies::EARLIER)?;
-    try_both(&rt, alloc, &copies::GOOD)
-}
-
-#[test]
-fn copies_between_buffers_and_images(rt: HostRuntime) -> Result<(), Fail> {
-    let alloc = rt.alloc();
-    try_both(&rt, alloc, &image_copies::TO_IMAGES)?;
-    try_both(&rt, alloc, &image_copies::TO_BUFFERS)?;
-    try_both(&rt, alloc, &image_copies::EARLIER)?;
-    try_both(&rt, alloc, &image_copies::GOOD)
-}
-
-#[test]
-fn fences_and_semaphores(rt: HostRuntime) -> Result<(), Fail> {
-    let alloc = rt.alloc();
-    try_both(&rt, alloc, &signals::BROKEN)?;
-    try_both(&rt, alloc, &signals::EARLIER)?;
-    try_both(&rt, alloc, &signals::GOOD)
-}
-
-#[test]
-fn submits(rt: HostRuntime) -> Result<(), Fail> {
-    let alloc = rt.alloc();
-    try_both(&rt, alloc, &submits::BROKEN)?;
-    try_both(&rt, alloc, &submits::EARLIER)?;
-    try_both(&rt, alloc, &submits::GOOD)
-}
-
-#[test]
-fn swapchains_and_their_images(rt: HostRuntime) -> Result<(), Fail> {
-    let alloc = rt.alloc();
-    try_both(&rt, alloc, &swapchains::BROKEN)?;
-    try_both(&rt, alloc, &swapchains::EARLIER)?;
-    try_both(&rt, alloc, &swapchains::GOOD)
-}
-
-#[test]
-fn presents(rt: HostRuntime) -> Result<(), Fail> {
-    let alloc = rt.alloc();
-    try_both(&rt, alloc, &presents::BROKEN)?;
-    try_both(&rt, alloc, &presents::EARLIER)?;
-    try_both(&rt, alloc, &presents::GOOD)
-}
-
-#[test]
-fn metadata_markers_and_sections(rt: HostRuntime) -> Result<(), Fail> {
-    let alloc = rt.alloc();
-    try_both(&rt, alloc, &metadata::BROKEN)?;
-    try_both(&rt, alloc, &metadata::EARLIER)?;
-    try_both(&rt, alloc, &metadata::OUTSIDE)?;
-    try_both(&rt, alloc, &metadata::GOOD)
-}
-
-#[test]
-fn lists_that_are_too_long(rt: HostRuntime) -> Result<(), Fail> {
-    try_all::<Tracked>(&rt, rt.alloc(), &limits::LISTS)
+fn captures_without_a_fault_are_taken_whole(rt: HostRuntime) -> Result<(), Fail> {
+    take_all(&rt, rt.alloc(), &runs::SMALL)?;
+    take_all(&rt, rt.alloc(), &runs::DRAWN)?;
+    take_all(&rt, rt.alloc(), &runs::LIVES)?;
+    take_all(&rt, rt.alloc(), &runs::PRESENTED)?;
+    take_all(&rt, rt.alloc(), &runs::BEGUN)
 }
 
 #[test]

@@ -4,8 +4,6 @@
 mod fault;
 mod file;
 mod middle;
-#[cfg(test)]
-mod tests;
 mod trial;
 
 pub use fault::TrialFault;

@@ -1,4 +1,4 @@
-//! Limits of 65,536: in lists, and of live objects. The plain evaluator would run out of stack on these lists.
+//! Limits of 65,536: in lists, and of live objects.
 
 use crate::attempt::{Attempt, attempts};
 use crate::case::{Case, cases, entries};

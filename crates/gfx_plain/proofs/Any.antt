@@ -1,7 +1,0 @@
--- Whether some item of a mapped list passes a test.
-use Rattle.std.proofs.Common.{◌≡◌, refl, ap, Bool, ◌||◌, List, [], ◌∷◌, map}
-use Rattle.std.specs.List.{list_any}
-
-pub any_map : {A : Type 0} {B : Type 0} (p : B → Bool) (f : A → B) (xs : List A) → list_any p (map f xs) ≡ list_any (λ x. p (f x)) xs
-any_map p f [] = refl
-any_map p f (x ∷ xs) = ap (λ b. p (f x) || b) (any_map p f xs)

@@ -1,5 +1,0 @@
-use Rattle.std.proofs.Common.{length}
-use Rattle.gfx_plain.proofs.broken.+first_broken.Given as goal
-
-abbrev pub decreases-first_broken : goal.decreases-first_broken
-decreases-first_broken l = length l.checks.now
