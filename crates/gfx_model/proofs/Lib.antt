@@ -15,6 +15,5 @@ pub mod Covered
 pub mod CoveredTurns
 pub mod FirstBroken
 pub mod Lists
-pub mod FieldTables
 pub mod Following
 pub mod Cutting

@@ -3,7 +3,7 @@ use Rattle.std.specs.Prelude.{ℕ, List, [], ◌∷◌, ◌++◌, map, codes, de
 use Rattle.std.specs.List.{join_with_byte}
 use Rattle.gfx_types.specs.declared.lists.Submit.{Submit}
 use Rattle.gfx_model.specs.Text.{hex_text}
-use Rattle.gfx_model.specs.Fields.{Atom, Value, Named}
+use Rattle.gfx_model.specs.Fields.{Atom, Value, Named, atoms_of}
 use Rattle.gfx_model.specs.Fields.Atom.{an_id, a_wide, a_short}
 use Rattle.gfx_model.specs.Fields.Value.{names, makes, maybe, wide, short, raw, names_each, makes_each, shorts, records, submitted}
 
@@ -37,7 +37,7 @@ value_text show (raw bytes) = hex_text bytes
 value_text show (names_each xs) = list_text (map show xs)
 value_text show (makes_each xs) = list_text (map show xs)
 value_text show (shorts xs) = list_text (map decimal xs)
-value_text show (records rs) = list_text (map (λ r. record_text (map (atom_text show) r)) rs)
+value_text show (records rs) = list_text (map (λ r. record_text (map (atom_text show) r)) (atoms_of rs))
 value_text show (submitted ss) = list_text (map (submit_text show) ss)
 
 -- field=value

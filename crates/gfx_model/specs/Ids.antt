@@ -5,7 +5,7 @@ use Rattle.gfx_types.specs.declared.lists.Present.{Present}
 use Rattle.gfx_types.specs.declared.lists.Submit.{Submit}
 use Rattle.gfx_model.specs.Events.{Event}
 use Rattle.gfx_model.specs.Events.Event.{CreateInstance, DestroyInstance, CreateHeadlessSurfaceEXT, DestroySurfaceKHR, CreateDevice, DestroyDevice, GetDeviceQueue, AllocateMemory, FreeMemory, MapMemory, UnmapMemory, CreateBuffer, DestroyBuffer, BindBufferMemory, CreateImage, DestroyImage, BindImageMemory, CreateCommandPool, DestroyCommandPool, ResetCommandPool, AllocateCommandBuffers, FreeCommandBuffers, BeginCommandBuffer, EndCommandBuffer, ResetCommandBuffer, CmdPipelineBarrier, CmdFillBuffer, CmdUpdateBuffer, CmdCopyBuffer, CmdCopyImage, CmdCopyBufferToImage, CmdCopyImageToBuffer, CmdClearColorImage, CreateFence, DestroyFence, ResetFences, WaitForFences, GetFenceStatus, CreateSemaphore, DestroySemaphore, QueueSubmit, QueueWaitIdle, DeviceWaitIdle, CreateSwapchainKHR, DestroySwapchainKHR, GetSwapchainImagesKHR, AcquireNextImageKHR, QueuePresentKHR, FillMemory, InitImage, SetSwapchainState, SetSemaphoreState, BeginSection, EndSection}
-use Rattle.gfx_model.specs.Fields.{Atom, Value, named_fields}
+use Rattle.gfx_model.specs.Fields.{Atom, Value, atoms_of, named_fields}
 use Rattle.gfx_model.specs.Fields.Atom.{an_id}
 use Rattle.gfx_model.specs.Fields.Value.{names, makes, maybe, names_each, makes_each, records, submitted}
 
@@ -19,7 +19,7 @@ abbrev pub named_by : Value → List ℕ
 named_by (names n) = n ∷ []
 named_by (maybe n) = n ∷ []
 named_by (names_each xs) = xs
-named_by (records rs) = flat_map (flat_map atom_ids) rs
+named_by (records rs) = flat_map (flat_map atom_ids) (atoms_of rs)
 named_by (submitted ss) = flat_map (λ s. s.waits ++ s.cbs ++ s.signals) ss
 named_by _ = []
 

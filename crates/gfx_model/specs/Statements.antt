@@ -4,7 +4,7 @@ use Rattle.std.specs.List.{list_all, slice_split, join_with_byte, onto_first, Al
 use Rattle.gfx_model.specs.Events.{Event}
 use Rattle.gfx_model.specs.Events.Event.{FillMemory}
 use Rattle.gfx_model.specs.Spelling.{FieldFits, IsOfVersion, fields_of, type_of}
-use Rattle.gfx_model.specs.Fields.{Atom, Value, named_fields, is_made}
+use Rattle.gfx_model.specs.Fields.{Atom, Value, atoms_of, named_fields, is_made}
 use Rattle.gfx_model.specs.EventNames.{event_name}
 use Rattle.gfx_model.specs.FieldText.{field_text}
 use Rattle.gfx_model.specs.Ids.{defines_of}
@@ -83,7 +83,7 @@ value_named n (Value.makes k) = is_number n k
 value_named n (Value.maybe k) = nat_le k n
 value_named n (Value.names_each ks) = list_all (is_number n) ks
 value_named n (Value.makes_each ks) = nat_le 1 (length ks) && list_all (is_number n) ks
-value_named n (Value.records rs) = list_all (list_all (atom_named n)) rs
+value_named n (Value.records rs) = list_all (list_all (atom_named n)) (atoms_of rs)
 value_named n (Value.submitted ss) = list_all (λ s. list_all (is_number n) (s.waits ++ s.cbs ++ s.signals)) ss
 value_named n _ = true
 

@@ -1,5 +1,5 @@
 -- The check table: for each event its checks, in the order in which they are made.
-use Rattle.std.specs.Prelude.{ℕ, ◌+◌, ◌*◌, ◌^◌, ◌%◌, ◌==◌, nat_le, Bool, not, ◌&&◌, ◌||◌, if◌then◌else◌, List, [], ◌∷◌, ◌++◌, map, flat_map, length, is_some}
+use Rattle.std.specs.Prelude.{ℕ, ◌+◌, ◌*◌, ◌%◌, ◌==◌, nat_le, Bool, not, ◌&&◌, ◌||◌, if◌then◌else◌, List, [], ◌∷◌, ◌++◌, map, flat_map, length, is_some}
 use Rattle.gfx_types.specs.Names.{format_of}
 use Rattle.gfx_types.specs.declared.names.Fault.TheVariants.{NotLive, BadValue, CommandState, LimitReached}
 use Rattle.gfx_types.specs.declared.names.Kind.{Kind}

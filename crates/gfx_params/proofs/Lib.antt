@@ -1,3 +1,4 @@
 pub mod Items
 pub mod Skipping
 pub mod Texts
+pub mod Presented

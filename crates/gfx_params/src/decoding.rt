@@ -6,8 +6,7 @@ ghost use Rattle.gfx_params.specs.Gives.{Gives};
 
 use crate::ParamFault;
 use crate::read::read_whole;
-use crate::table::{calls, in_order, metas};
-use gfx_types::{Call, Ids, Meta, Present, Presents};
+use gfx_types::{Call, Ids, Meta, Present, Presents, calls, in_order, metas};
 use std::alloc::Global;
 
 /// The section of this name, handed on.
@@ -24,7 +23,7 @@ macro_rules! decoded {
 
 /// What fields spell by the rows of a section.
 macro_rules! decoded_rows {
-    (($id:expr, $of:ident, $alloc:expr, $bytes:expr, $other:expr) $($row:literal $name:ident($($field:ident),+);)+) => {
+    (($id:expr, $of:ident, $alloc:expr, $bytes:expr, $other:expr) $($row:literal $name:ident $method:ident($($field:ident: $mark:ident),+);)+) => {
         match $id {
             $($row => match read_whole($alloc, $bytes) {
                 Ok(in_order!($($field),+)) => Ok($of::$name { $($field),+ }),

@@ -1,16 +1,16 @@
 // The fields that values are spelled by.
 ghost use Rattle.std.specs.Prelude.{◌≡◌, ◌⊎◌, ◌<◌, ◌^◌, ◌++◌, length, take, OnOk, OnErr};
 ghost use Rattle.gfx_model.specs.Events.{event_of_call, event_of_meta};
+ghost use Rattle.gfx_model.specs.Events.Event.{QueuePresentKHR};
 ghost use Rattle.gfx_model.specs.Spelling.{HasSpelling, spelling};
 
-use crate::table::{calls, in_order, metas};
 use crate::write::WriteFields;
-use gfx_types::{Call, Meta, WantMemory};
+use gfx_types::{Call, Ids, Meta, Presents, WantMemory, calls, in_order, metas};
 use std::alloc::AllocError;
 
 /// Appends the fields of a value by its row.
 macro_rules! written {
-    ($value:expr, $of:ident, $out:expr, { $($other:tt)* }; $($section:ident { $($row:literal $name:ident($($field:ident),+);)+ })+) => {
+    ($value:expr, $of:ident, $out:expr, { $($other:tt)* }; $($section:ident { $($row:literal $name:ident $method:ident($($field:ident: $mark:ident),+);)+ })+) => {
         match $value {
             $($($of::$name { $($field),+ } => in_order!($($field),+).write($out),)+)+
             $($other)*
@@ -20,7 +20,7 @@ macro_rules! written {
 
 /// How many bytes the fields of a value take by its row.
 macro_rules! measured {
-    ($value:expr, $of:ident, { $($other:tt)* }; $($section:ident { $($row:literal $name:ident($($field:ident),+);)+ })+) => {
+    ($value:expr, $of:ident, { $($other:tt)* }; $($section:ident { $($row:literal $name:ident $method:ident($($field:ident: $mark:ident),+);)+ })+) => {
         match $value {
             $($($of::$name { $($field),+ } => in_order!($($field),+).length(),)+)+
             $($other)*
@@ -92,15 +92,32 @@ fn write_call(minor: u32, call: &Call<'_>, out: &mut Vec<u8>) -> Result<(), Allo
 {
     calls!(written, call, Call, out, {
         Call::QueuePresentKHR { queue, waits, presents } => {
-            if minor == 2 {
-                return (queue, (waits, presents)).write(out);
-            }
-            match presents.items() {
-                [present] => (queue, (waits, present)).write(out),
-                _ => unreachable!(),
-            }
+            write_present(minor, *queue, waits, presents, out)
         }
     })
+}
+
+/// Appends the fields of a present: version 1 has one swapchain and one index, version 2 a list of them.
+#[tactic(auto, using(crate::proofs::Presented::one_spelled), unfolding(gfx_model::specs::Spelling::fields_of, gfx_model::specs::Spelling::spelling))]
+fn write_present(
+    minor: u32,
+    queue: u64,
+    waits: &Ids,
+    presents: &Presents,
+    out: &mut Vec<u8>,
+) -> Result<(), AllocError>
+    requires version { (minor ≡ 1) ⊎ (minor ≡ 2) }
+    requires fits { HasSpelling minor (QueuePresentKHR queue waits.now presents.now) }
+    ensures ok { OnOk result (out.new.items ≡ out.old.items ++ spelling minor (QueuePresentKHR queue waits.now presents.now)) }
+    ensures err { OnErr result (take (length out.old.items) out.new.items ≡ out.old.items) }
+{
+    if minor == 2 {
+        return (queue, (waits, presents)).write(out);
+    }
+    match presents.items() {
+        [present] => (queue, (waits, present)).write(out),
+        _ => unreachable!(),
+    }
 }
 
 /// Appends the fields of a metadata. After want of memory some of them may stand behind the old bytes.

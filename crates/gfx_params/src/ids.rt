@@ -3,12 +3,11 @@ ghost use Rattle.std.specs.Prelude.{◌≡◌};
 ghost use Rattle.gfx_model.specs.Events.{event_of_call, event_of_meta};
 ghost use Rattle.gfx_model.specs.Spelling.{id_of, type_of};
 
-use crate::table::{calls, metas};
-use gfx_types::{Call, Meta};
+use gfx_types::{Call, Meta, calls, metas};
 
 /// The id of a value by its row.
 macro_rules! numbered {
-    ($value:expr, $of:ident, { $($other:tt)* }; $($section:ident { $($row:literal $name:ident($($field:ident),+);)+ })+) => {
+    ($value:expr, $of:ident, { $($other:tt)* }; $($section:ident { $($row:literal $name:ident $method:ident($($field:ident: $mark:ident),+);)+ })+) => {
         match $value {
             $($($of::$name { .. } => $row,)+)+
             $($other)*

@@ -8,7 +8,6 @@ mod ids;
 mod lists;
 mod read;
 mod records;
-mod table;
 mod write;
 mod write_lists;
 mod write_records;

@@ -1,9 +1,8 @@
 // Writing of the records in lists.
 ghost use Rattle.gfx_model.specs.Spelling.{barrier_fields, buffer_region_fields, image_region_fields, mixed_region_fields, present_fields, submit_fields};
 
-use crate::table::in_order;
 use crate::write::WriteFields;
-use gfx_types::{Barrier, BufferRegion, ImageRegion, MixedRegion, Present, Submit};
+use gfx_types::{Barrier, BufferRegion, ImageRegion, MixedRegion, Present, Submit, in_order};
 use std::alloc::AllocError;
 
 impl WriteFields for Barrier {
