@@ -2,11 +2,11 @@
 ghost use Rattle.std.specs.Prelude.{None};
 ghost use Rattle.gfx_io.specs.Memory.{sink_faults};
 
-use crate::cuts::first_cut;
-use crate::files::{ENDS, NEXT_FRAME, THREE_SHOWN, three_frames};
-use crate::outside::{Ended, words_of};
 use gfx_cli::run_files;
 use gfx_io::{Failed, MemSink, Sink, Source};
+use gfx_outside::{Ended, words_of};
+use gfx_samples::cuts::first_cut;
+use gfx_samples::files::{ENDS, NEXT_FRAME, THREE_SHOWN, three_frames};
 use std::alloc::Global;
 use std::sync::atomic::{AtomicU64, Ordering};
 use std::test::Fail;

@@ -1,7 +1,7 @@
 //! Files that `info` describes.
 
-use crate::files::{ONE_TEXEL, file_of, one_frame, three_frames, with_bytes};
-use crate::outside::Outside;
+use gfx_outside::Outside;
+use gfx_samples::files::{ONE_TEXEL, file_of, one_frame, three_frames, with_bytes};
 use std::test::Fail;
 
 const COUNTS: &[u8] = b"version 1000.1\nblocks 15\ncalls 15\nframes 1\n";
@@ -11,7 +11,7 @@ fn a_whole_file_is_counted_in_any_cutting(rt: HostRuntime) -> Result<(), Fail> {
     let file = file_of(rt.alloc(), 1, &ONE_TEXEL)?;
     for most in [1, 7, 4096] {
         let outside = Outside::info(&file).at_most(most);
-        outside.ends(&rt, 0, COUNTS, b"")?;
+        outside.ends(rt.alloc(), 0, COUNTS, b"")?;
     }
     Ok(())
 }
@@ -20,7 +20,7 @@ fn a_whole_file_is_counted_in_any_cutting(rt: HostRuntime) -> Result<(), Fail> {
 fn metadata_is_a_block_and_no_call(rt: HostRuntime) -> Result<(), Fail> {
     let file = three_frames(rt.alloc())?;
     let counts = b"version 1000.1\nblocks 30\ncalls 29\nframes 3\n";
-    Outside::info(&file).ends(&rt, 0, counts, b"")
+    Outside::info(&file).ends(rt.alloc(), 0, counts, b"")
 }
 
 #[test]
@@ -36,7 +36,7 @@ fn a_cut_file_is_named_at_its_cut_block(rt: HostRuntime) -> Result<(), Fail> {
             (cut, b"bad block 15 at 680: 5 Truncated\n".as_slice()),
         ] {
             let outside = Outside::info(input).at_most(most);
-            outside.ends(&rt, 3, b"", line)?;
+            outside.ends(rt.alloc(), 3, b"", line)?;
         }
     }
     Ok(())
@@ -53,7 +53,7 @@ fn the_first_broken_step_is_named(rt: HostRuntime) -> Result<(), Fail> {
         (0, 3, b"bad block 0 at 0: 1 BadMagic\n".as_slice()),
     ] {
         let file = with_bytes(file_of(rt.alloc(), 1, &ONE_TEXEL)?, place, &[byte]);
-        Outside::info(&file).ends(&rt, 3, b"", line)?;
+        Outside::info(&file).ends(rt.alloc(), 3, b"", line)?;
     }
     Ok(())
 }
@@ -63,9 +63,9 @@ fn rules_are_not_asked(rt: HostRuntime) -> Result<(), Fail> {
     // The second call of a file that begins with it names an instance that is not there.
     let file = file_of(rt.alloc(), 1, &ONE_TEXEL[1..2])?;
     let counts = b"version 1000.1\nblocks 1\ncalls 1\nframes 0\n";
-    Outside::info(&file).ends(&rt, 0, counts, b"")?;
+    Outside::info(&file).ends(rt.alloc(), 0, counts, b"")?;
     let line = b"bad block 1 at 16: 11 NotLive\n";
-    Outside::replay(&file).ends(&rt, 3, b"", line)
+    Outside::replay(&file).ends(rt.alloc(), 3, b"", line)
 }
 
 #[test]
@@ -76,15 +76,15 @@ fn a_call_that_fails_in_mid_stream_is_told(rt: HostRuntime) -> Result<(), Fail> 
         failing_writes: &[3],
         ..whole
     };
-    unwritten.ends(&rt, 6, b"version 1000.1", b"")?;
+    unwritten.ends(rt.alloc(), 6, b"version 1000.1", b"")?;
     let unread = Outside {
         failing_reads: &[5],
         ..unwritten
     };
-    unread.ends(&rt, 5, b"", b"read fault\n")?;
+    unread.ends(rt.alloc(), 5, b"", b"read fault\n")?;
     let unnoted = Outside {
         failing_notes: &[2],
         ..unread
     };
-    unnoted.ends(&rt, 6, b"", b"read fa")
+    unnoted.ends(rt.alloc(), 6, b"", b"read fa")
 }

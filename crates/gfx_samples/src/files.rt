@@ -4,7 +4,7 @@ use std::alloc::Global;
 use std::test::Fail;
 
 /// The blocks of a capture with one frame of one texel.
-pub(crate) const ONE_TEXEL: [&str; 15] = [
+pub const ONE_TEXEL: [&str; 15] = [
     "180000000000000004000000010000000000000000000000010000000000000000004000",
     "1c000000000000000400000003000000000000000000000001000000000000000200000000000000",
     "1c000000000000000400000005000000000000000000000001000000000000000300000000000000",
@@ -23,7 +23,7 @@ pub(crate) const ONE_TEXEL: [&str; 15] = [
 ];
 
 /// The blocks of a capture with one frame of three texels, whose bytes are `abc`.
-pub(crate) const ONE_FRAME: [&str; 22] = [
+pub const ONE_FRAME: [&str; 22] = [
     "180000000000000004000000010000000000000000000000010000000000000000004000",
     "1c000000000000000400000003000000000000000000000001000000000000000200000000000000",
     "1c000000000000000400000005000000000000000000000001000000000000000300000000000000",
@@ -49,7 +49,7 @@ pub(crate) const ONE_FRAME: [&str; 22] = [
 ];
 
 /// The blocks that show it once more.
-pub(crate) const NEXT_FRAME: [&str; 4] = [
+pub const NEXT_FRAME: [&str; 4] = [
     "2000000000000000040000002400000000000000000000000300000000000000010000000700000000000000",
     "3400000000000000040000002f000000000000000000000003000000000000000500000000000000000000000000000007000000000000000000000000000000",
     "34000000000000000400000029000000000000000000000004000000000000000100000000000000010000000b00000000000000000000000000000000000000",
@@ -57,7 +57,7 @@ pub(crate) const NEXT_FRAME: [&str; 4] = [
 ];
 
 /// The blocks of a capture of minor version 2, with one frame of two images of one texel.
-pub(crate) const TWO_IMAGES: [&str; 20] = [
+pub const TWO_IMAGES: [&str; 20] = [
     "180000000000000004000000010000000000000000000000010000000000000000004000",
     "1c000000000000000400000003000000000000000000000001000000000000000200000000000000",
     "1c000000000000000400000005000000000000000000000001000000000000000300000000000000",
@@ -81,10 +81,10 @@ pub(crate) const TWO_IMAGES: [&str; 20] = [
 ];
 
 /// Where the frames of the file of three frames end.
-pub(crate) const ENDS: [usize; 3] = [1131, 1351, 1571];
+pub const ENDS: [usize; 3] = [1131, 1351, 1571];
 
 /// What replay writes of the file of three frames.
-pub(crate) const THREE_SHOWN: &[u8] =
+pub const THREE_SHOWN: &[u8] =
     b"frame 1 3x1 R8_UINT ba7816bf8f01cfea414140de5dae2223b00361a396177a9cb410ff61f20015ad
 frame 2 3x1 R8_UINT ba7816bf8f01cfea414140de5dae2223b00361a396177a9cb410ff61f20015ad
 frame 3 3x1 R8_UINT ba7816bf8f01cfea414140de5dae2223b00361a396177a9cb410ff61f20015ad
@@ -92,7 +92,7 @@ frames 3
 ";
 
 /// The lines, of 85 bytes each, of its frames that end within so many bytes of it.
-pub(crate) fn shown_before(bytes: usize) -> &'static [u8] {
+pub fn shown_before(bytes: usize) -> &'static [u8] {
     if bytes < ENDS[0] {
         b""
     } else if bytes < ENDS[1] {
@@ -105,7 +105,7 @@ pub(crate) fn shown_before(bytes: usize) -> &'static [u8] {
 }
 
 /// The file of a header of this minor version and these blocks.
-pub(crate) fn file_of(alloc: Global, minor: u8, blocks: &[&str]) -> Result<Vec<u8>, Fail> {
+pub fn file_of(alloc: Global, minor: u8, blocks: &[&str]) -> Result<Vec<u8>, Fail> {
     let mut file = Vec::from_slice(alloc, b"GFXR\xe8\x03\0\0\0\0\0\0\0\0\0\0")?;
     file[8] = minor;
     append(alloc, blocks, &mut file)?;
@@ -113,7 +113,7 @@ pub(crate) fn file_of(alloc: Global, minor: u8, blocks: &[&str]) -> Result<Vec<u
 }
 
 /// Appends blocks.
-pub(crate) fn append(alloc: Global, blocks: &[&str], file: &mut Vec<u8>) -> Result<(), Fail> {
+pub fn append(alloc: Global, blocks: &[&str], file: &mut Vec<u8>) -> Result<(), Fail> {
     for block in blocks {
         file.extend_from_slice(&hex::decode(alloc, *block)?)?;
     }
@@ -121,12 +121,12 @@ pub(crate) fn append(alloc: Global, blocks: &[&str], file: &mut Vec<u8>) -> Resu
 }
 
 /// The file of one frame.
-pub(crate) fn one_frame(alloc: Global) -> Result<Vec<u8>, Fail> {
+pub fn one_frame(alloc: Global) -> Result<Vec<u8>, Fail> {
     file_of(alloc, 1, &ONE_FRAME)
 }
 
 /// The file of one frame, and then that frame twice more.
-pub(crate) fn three_frames(alloc: Global) -> Result<Vec<u8>, Fail> {
+pub fn three_frames(alloc: Global) -> Result<Vec<u8>, Fail> {
     let mut file = one_frame(alloc)?;
     append(alloc, &NEXT_FRAME, &mut file)?;
     append(alloc, &NEXT_FRAME, &mut file)?;
@@ -134,7 +134,7 @@ pub(crate) fn three_frames(alloc: Global) -> Result<Vec<u8>, Fail> {
 }
 
 /// The file with these bytes from a place on, in the stead of those that stand there.
-pub(crate) fn with_bytes(mut file: Vec<u8>, at: usize, bytes: &[u8]) -> Vec<u8> {
+pub fn with_bytes(mut file: Vec<u8>, at: usize, bytes: &[u8]) -> Vec<u8> {
     for (index, byte) in bytes.iter().enumerate() {
         if let Some(old) = file.get_mut(at.saturating_add(index)) {
             *old = *byte;

@@ -1,9 +1,9 @@
 //! Every file and each range of frames inside it: what is shown of the cut is what is shown of the range.
 
-use crate::files::{ONE_TEXEL, TWO_IMAGES, file_of, one_frame, three_frames};
-use crate::outside::{Outside, trim};
-use crate::pictures::{PIXELS, all};
-use crate::variants;
+use gfx_outside::{Outside, PIXELS, trim};
+use gfx_samples::files::{ONE_TEXEL, TWO_IMAGES, file_of, one_frame, three_frames};
+use gfx_samples::scenes::all;
+use gfx_samples::variants;
 use std::process::Abort;
 use std::test::Fail;
 
@@ -19,7 +19,7 @@ fn assert_same<'a>(
     let cut = trim(rt.alloc(), range, file)?;
     assert_eq!(rt; cut.status, 0, "of {range}");
     assert_eq!(rt; cut.left, whole.left, "of {range}");
-    Outside::of(PIXELS, &cut.text).ends(rt, 0, &whole.text, b"")
+    Outside::of(PIXELS, &cut.text).ends(rt.alloc(), 0, &whole.text, b"")
 }
 
 /// Compares the ranges that begin with this frame.

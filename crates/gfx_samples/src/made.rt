@@ -18,18 +18,18 @@ const PRESENTED: u32 = 1_000_001_002;
 
 /// The image of a capture, its memory, and its buffer over the front of the memory, which begins with these bytes.
 #[derive(Clone, Copy)]
-pub(crate) struct Scene<'a> {
-    pub(crate) format: u32,
-    pub(crate) width: u32,
-    pub(crate) height: u32,
-    pub(crate) memory: u64,
-    pub(crate) buffer: u64,
-    pub(crate) usage: u32,
-    pub(crate) bytes: &'a [u8],
+pub struct Scene<'a> {
+    pub format: u32,
+    pub width: u32,
+    pub height: u32,
+    pub memory: u64,
+    pub buffer: u64,
+    pub usage: u32,
+    pub bytes: &'a [u8],
 }
 
 /// The scene of the file of one frame.
-pub(crate) const PLAIN: Scene<'static> = Scene {
+pub const PLAIN: Scene<'static> = Scene {
     format: 13,
     width: 3,
     height: 1,
@@ -41,7 +41,7 @@ pub(crate) const PLAIN: Scene<'static> = Scene {
 
 /// A file of minor version 1 that grows by blocks of thread 0.
 #[derive(Drop)]
-pub(crate) struct Made {
+pub struct Made {
     alloc: Global,
     bytes: Vec<u8>,
 }
@@ -55,7 +55,7 @@ impl Made {
     }
 
     /// All that stands before the commands of a scene but the first, which makes the image a target.
-    pub(crate) fn of(alloc: Global, scene: Scene<'_>) -> Result<Self, Fail>
+    pub fn of(alloc: Global, scene: Scene<'_>) -> Result<Self, Fail>
         requires { length scene.bytes.now ≤ 65536 }
     {
         let mut made = Made::new(alloc)?;
@@ -65,7 +65,7 @@ impl Made {
     }
 
     /// The bytes of the file.
-    pub(crate) fn bytes(&self) -> &[u8] {
+    pub fn bytes(&self) -> &[u8] {
         &self.bytes
     }
 
@@ -202,7 +202,7 @@ impl Made {
     }
 
     /// A copy of the front of the buffer to an image of this size.
-    pub(crate) fn copy_to_image(&mut self, width: u32, height: u32) -> Result<(), Fail> {
+    pub fn copy_to_image(&mut self, width: u32, height: u32) -> Result<(), Fail> {
         let region = MixedRegion {
             offset: 0,
             row: 0,
@@ -223,7 +223,7 @@ impl Made {
     }
 
     /// Copies inside the buffer, one after the other.
-    pub(crate) fn copy_twice(
+    pub fn copy_twice(
         &mut self,
         first: BufferRegion,
         second: BufferRegion,
@@ -238,7 +238,7 @@ impl Made {
     }
 
     /// A fill of the whole buffer.
-    pub(crate) fn fill(&mut self, word: u32) -> Result<(), Fail> {
+    pub fn fill(&mut self, word: u32) -> Result<(), Fail> {
         self.call(Call::CmdFillBuffer {
             cb: 11,
             buffer: 9,
@@ -249,7 +249,7 @@ impl Made {
     }
 
     /// An update of the front of the buffer.
-    pub(crate) fn update(&mut self, bytes: &[u8]) -> Result<(), Fail>
+    pub fn update(&mut self, bytes: &[u8]) -> Result<(), Fail>
         requires { length bytes.now ≤ 131072 }
     {
         self.call(Call::CmdUpdateBuffer {
@@ -261,7 +261,7 @@ impl Made {
     }
 
     /// A clear of the image, of which the first component isn't 0.
-    pub(crate) fn clear(&mut self, c0: u32) -> Result<(), Fail> {
+    pub fn clear(&mut self, c0: u32) -> Result<(), Fail> {
         self.call(Call::CmdClearColorImage {
             cb: 11,
             image: 6,
@@ -274,7 +274,7 @@ impl Made {
     }
 
     /// The end of the recording, whose last command lets the image be presented, and the first frame.
-    pub(crate) fn show(&mut self) -> Result<(), Fail> {
+    pub fn show(&mut self) -> Result<(), Fail> {
         self.barrier(7, PRESENTED)?;
         self.call(Call::EndCommandBuffer { cb: 11 })?;
         self.frame()
@@ -319,7 +319,7 @@ impl Made {
     }
 
     /// The same frame once more.
-    pub(crate) fn show_again(&mut self) -> Result<(), Fail> {
+    pub fn show_again(&mut self) -> Result<(), Fail> {
         let fences = Ids::of(vec![in self.alloc; 7]?);
         self.call(Call::ResetFences { device: 3, fences })?;
         self.frame()

@@ -5,24 +5,24 @@ use std::alloc::Global;
 use std::test::Fail;
 
 /// The markers that begin and end the section before frame 2.
-pub(crate) const BEGIN: &str = "0c0000000000000002000000010000000200000000000000";
+pub const BEGIN: &str = "0c0000000000000002000000010000000200000000000000";
 
 const END: &str = "0c0000000000000002000000020000000200000000000000";
 
 /// Of the memory all 64 bytes are mapped.
-pub(crate) const MAPPED: &str =
+pub const MAPPED: &str =
     "2c00000000000000040000000a0000000000000000000000030000000000000008000000000000000000000000000000\
     4000000000000000";
 
 /// No image is acquired, the image has the bytes `abc` and can be presented, and the fence is signalled.
-pub(crate) const STATES: [&str; 3] = [
+pub const STATES: [&str; 3] = [
     "1c000000000000000300000004000000000000000000000005000000000000000100000000000000",
     "2300000000000000030000000300000000000000000000000600000000000000eacd9a3b0300000000000000616263",
     "2000000000000000040000002200000000000000000000000300000000000000070000000000000001000000",
 ];
 
 /// The file of a section with these blocks before the frame with this number, and of the blocks behind it.
-pub(crate) fn cut_file(
+pub fn cut_file(
     alloc: Global,
     number: u8,
     section: &[&[&str]],
@@ -45,14 +45,14 @@ fn append_all(alloc: Global, parts: &[&[&str]], file: &mut Vec<u8>) -> Result<()
 }
 
 /// The file of the first of three frames, and of what stands behind it.
-pub(crate) fn first_cut(alloc: Global, behind: &[&[&str]]) -> Result<Vec<u8>, Fail> {
+pub fn first_cut(alloc: Global, behind: &[&[&str]]) -> Result<Vec<u8>, Fail> {
     let mut file = cut_file(alloc, 1, &[], &[&ONE_FRAME])?;
     append_all(alloc, behind, &mut file)?;
     Ok(file)
 }
 
 /// The file of the state behind the first or the second of three frames, and of what stands behind it.
-pub(crate) fn later_cut(alloc: Global, number: u8, behind: &[&[&str]]) -> Result<Vec<u8>, Fail> {
+pub fn later_cut(alloc: Global, number: u8, behind: &[&[&str]]) -> Result<Vec<u8>, Fail> {
     let section = [
         &ONE_FRAME[..4],
         &[ONE_FRAME[7], ONE_FRAME[9], MAPPED],

@@ -1,7 +1,7 @@
 //! A file that is cut behind each of its bytes.
 
-use crate::files::{shown_before, three_frames};
-use crate::outside::Outside;
+use gfx_outside::Outside;
+use gfx_samples::files::{shown_before, three_frames};
 use std::process::Abort;
 use std::test::Fail;
 
@@ -17,7 +17,7 @@ fn assert_whole(rt: &(impl Abort + AllocGlobal), front: &[u8]) -> Result<(), Fai
     let mut text = Vec::from_slice(rt.alloc(), shown)?;
     let frames = shown.len() / 85;
     text.extend_from_slice(format!(in rt.alloc(); "frames {frames}\n")?.as_bytes())?;
-    Outside::replay(front).ends(rt, 0, &text, b"")
+    Outside::replay(front).ends(rt.alloc(), 0, &text, b"")
 }
 
 /// Replays the files that end inside this block, each behind one more of its bytes, and answers how many they are.
@@ -33,7 +33,7 @@ fn assert_cuts(
         let end = offset.saturating_add(inside).min(file.len());
         let front = &file[..end];
         let outside = Outside::replay(front);
-        outside.ends(rt, 3, shown_before(end), line.as_bytes())?;
+        outside.ends(rt.alloc(), 3, shown_before(end), line.as_bytes())?;
     }
     Ok(SIZES[block.min(30)].saturating_sub(first))
 }

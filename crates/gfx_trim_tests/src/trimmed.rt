@@ -1,11 +1,11 @@
 //! Ranges that `trim` cuts out of the file of three frames.
 
-use crate::cuts::{cut_file, first_cut, later_cut};
-use crate::files::{
+use gfx_outside::{Outside, trim};
+use gfx_samples::cuts::{cut_file, first_cut, later_cut};
+use gfx_samples::files::{
     NEXT_FRAME, ONE_FRAME, THREE_SHOWN, TWO_IMAGES, append, file_of, one_frame, three_frames,
     with_bytes,
 };
-use crate::outside::{Outside, trim};
 use std::process::Abort;
 use std::test::Fail;
 
@@ -42,7 +42,7 @@ fn assert_shows(
 ) -> Result<(), Fail> {
     let mut text = Vec::from_slice(rt.alloc(), shown)?;
     text.extend_from_slice(last_line)?;
-    Outside::replay(cut).ends(rt, 0, &text, b"")
+    Outside::replay(cut).ends(rt.alloc(), 0, &text, b"")
 }
 
 #[test]
@@ -53,7 +53,7 @@ fn a_frame_is_cut_out_behind_the_state_before_it(rt: HostRuntime) -> Result<(), 
     assert_eq!(rt; cut.as_slice().get(1090..), file.as_slice().get(1131..1351));
     assert_ends(&rt, "2-2", &file, (0, &cut, b""), 220)?;
     let counts = b"version 1000.1\nblocks 27\ncalls 22\nframes 1\n";
-    Outside::info(&cut).ends(&rt, 0, counts, b"")?;
+    Outside::info(&cut).ends(rt.alloc(), 0, counts, b"")?;
     assert_shows(&rt, &cut, &THREE_SHOWN[85..170], b"frames 1\n")
 }
 

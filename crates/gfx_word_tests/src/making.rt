@@ -1,12 +1,12 @@
 //! A capture that the program makes.
 
-use crate::outside::Outside;
+use gfx_outside::Outside;
 use std::test::Fail;
 
 #[test]
 fn a_made_capture_and_its_cut_show_the_same_images(rt: HostRuntime) -> Result<(), Fail> {
     Outside::of(&["make", "3"], b"").ends(
-        &rt,
+        rt.alloc(),
         0,
         b"file frames 3 blocks 43\n\
         trim 1-2 frames 2\n\

@@ -1,7 +1,7 @@
 //! Files of minor version 2, whose presents name several swapchains.
 
-use crate::files::{TWO_IMAGES, file_of, one_frame, with_bytes};
-use crate::outside::Outside;
+use gfx_outside::Outside;
+use gfx_samples::files::{TWO_IMAGES, file_of, one_frame, with_bytes};
 use std::test::Fail;
 
 const SHOWN: &[u8] =
@@ -24,10 +24,10 @@ const COUNTS: &[u8] = b"version 1000.2\nblocks 20\ncalls 20\nframes 1\n";
 fn a_frame_has_a_line_for_each_of_its_images(rt: HostRuntime) -> Result<(), Fail> {
     let file = file_of(rt.alloc(), 2, &TWO_IMAGES)?;
     assert_eq!(rt; file.len(), 1028);
-    Outside::info(&file).ends(&rt, 0, COUNTS, b"")?;
-    Outside::replay(&file).ends(&rt, 0, SHOWN, b"")?;
+    Outside::info(&file).ends(rt.alloc(), 0, COUNTS, b"")?;
+    Outside::replay(&file).ends(rt.alloc(), 0, SHOWN, b"")?;
     let pixels = ["replay", "--pixels"].as_slice();
-    Outside::of(pixels, &file).ends(&rt, 0, WITH_PIXELS, b"")
+    Outside::of(pixels, &file).ends(rt.alloc(), 0, WITH_PIXELS, b"")
 }
 
 #[test]
@@ -35,8 +35,8 @@ fn a_swapchain_that_stands_twice_is_a_bad_value(rt: HostRuntime) -> Result<(), F
     // The swapchain of the second present.
     let file = with_bytes(file_of(rt.alloc(), 2, &TWO_IMAGES)?, 1016, &[5]);
     let line = b"bad block 20 at 964: 15 BadValue\n";
-    Outside::replay(&file).ends(&rt, 3, b"", line)?;
-    Outside::info(&file).ends(&rt, 0, COUNTS, b"")
+    Outside::replay(&file).ends(rt.alloc(), 3, b"", line)?;
+    Outside::info(&file).ends(rt.alloc(), 0, COUNTS, b"")
 }
 
 #[test]
@@ -45,22 +45,22 @@ fn a_present_of_nothing_is_a_bad_value(rt: HostRuntime) -> Result<(), Fail> {
     file.truncate(1004);
     let file = with_bytes(with_bytes(file, 964, &[28]), 1000, &[0]);
     let line = b"bad block 20 at 964: 15 BadValue\n";
-    Outside::replay(&file).ends(&rt, 3, b"", line)?;
-    Outside::info(&file).ends(&rt, 0, COUNTS, b"")
+    Outside::replay(&file).ends(rt.alloc(), 3, b"", line)?;
+    Outside::info(&file).ends(rt.alloc(), 0, COUNTS, b"")
 }
 
 #[test]
 fn a_present_of_version_1_is_none_of_version_2(rt: HostRuntime) -> Result<(), Fail> {
     let file = with_bytes(one_frame(rt.alloc())?, 8, &[2]);
     let line = b"bad block 22 at 1083: 8 BadParams\n";
-    Outside::replay(&file).ends(&rt, 3, b"", line)?;
-    Outside::info(&file).ends(&rt, 3, b"", line)
+    Outside::replay(&file).ends(rt.alloc(), 3, b"", line)?;
+    Outside::info(&file).ends(rt.alloc(), 3, b"", line)
 }
 
 #[test]
 fn a_file_of_minor_version_3_is_refused(rt: HostRuntime) -> Result<(), Fail> {
     let file = with_bytes(one_frame(rt.alloc())?, 8, &[3]);
     let line = b"bad block 0 at 0: 2 BadVersion\n";
-    Outside::replay(&file).ends(&rt, 3, b"", line)?;
-    Outside::info(&file).ends(&rt, 3, b"", line)
+    Outside::replay(&file).ends(rt.alloc(), 3, b"", line)?;
+    Outside::info(&file).ends(rt.alloc(), 3, b"", line)
 }

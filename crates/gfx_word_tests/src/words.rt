@@ -1,6 +1,6 @@
 //! The words of the command line.
 
-use crate::outside::Outside;
+use gfx_outside::Outside;
 use std::test::Fail;
 
 const USAGE: &[u8] =
@@ -71,7 +71,7 @@ fn words_outside_the_grammar_are_answered_by_the_usage_line(rt: HostRuntime) -> 
 #[test]
 fn words_of_commands_that_are_not_built_are_answered_so_too(rt: HostRuntime) -> Result<(), Fail> {
     for words in UNBUILT {
-        Outside::of(words, b"").ends(&rt, 2, b"", USAGE)?;
+        Outside::of(words, b"").ends(rt.alloc(), 2, b"", USAGE)?;
     }
     Ok(())
 }

@@ -1,7 +1,7 @@
 //! Reads and writes of which one fails, each in turn.
 
-use crate::files::{THREE_SHOWN, shown_before, three_frames};
-use crate::outside::Outside;
+use gfx_outside::Outside;
+use gfx_samples::files::{THREE_SHOWN, shown_before, three_frames};
 use std::process::Abort;
 use std::test::Fail;
 
@@ -103,7 +103,7 @@ fn a_note_that_cannot_be_written_is_a_failed_write(rt: HostRuntime) -> Result<()
             failing_notes: &[1],
             ..Outside::of(words, input)
         };
-        outside.ends(&rt, 6, text, b"")?;
+        outside.ends(rt.alloc(), 6, text, b"")?;
     }
     Ok(())
 }

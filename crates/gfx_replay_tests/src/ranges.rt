@@ -1,7 +1,7 @@
 //! Frames that `replay` is asked for by their numbers.
 
-use crate::files::{THREE_SHOWN, file_of, three_frames};
-use crate::outside::Outside;
+use gfx_outside::Outside;
+use gfx_samples::files::{THREE_SHOWN, file_of, three_frames};
 use std::process::Abort;
 use std::test::Fail;
 
@@ -66,5 +66,5 @@ fn a_file_without_frames_has_none_of_any_range(rt: HostRuntime) -> Result<(), Fa
     let header = file_of(rt.alloc(), 1, &[])?;
     let line = b"no such frame: the file has 1 to 0\n";
     let words = ["replay", "--frames", "1-1"];
-    Outside::of(&words, &header).ends(&rt, 4, b"", line)
+    Outside::of(&words, &header).ends(rt.alloc(), 4, b"", line)
 }

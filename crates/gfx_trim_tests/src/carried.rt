@@ -1,10 +1,9 @@
 //! What a section carries from the frames before a range to those of the range.
 
-use crate::cuts::{MAPPED, STATES, cut_file, later_cut};
-use crate::files::{NEXT_FRAME, ONE_FRAME, with_bytes};
-use crate::outside::Outside;
-use crate::pictures::PIXELS;
-use crate::variants::{
+use gfx_outside::{Outside, PIXELS};
+use gfx_samples::cuts::{MAPPED, STATES, cut_file, later_cut};
+use gfx_samples::files::{NEXT_FRAME, ONE_FRAME, ONE_TEXEL, append, file_of, with_bytes};
+use gfx_samples::variants::{
     BEGUN, ENDED, FAR_FILL, SIGNALLED, UNUSED, WAITED_FOR, bound_late, crossing, filled_twice,
     freed, signalled, sized, used,
 };
@@ -20,8 +19,8 @@ fn assert_cut<'a>(
     shown: &[u8],
 ) -> Result<(), Fail> {
     let words = ["trim", range];
-    Outside::of(&words, file).ends(rt, 0, cut, b"")?;
-    Outside::of(PIXELS, cut).ends(rt, 0, shown, b"")
+    Outside::of(&words, file).ends(rt.alloc(), 0, cut, b"")?;
+    Outside::of(PIXELS, cut).ends(rt.alloc(), 0, shown, b"")
 }
 
 const SECOND: &[u8] =
@@ -76,7 +75,7 @@ frames 1
 ";
     assert_cut(&rt, &freed(rt.alloc())?, "3-3", &cut, shown)?;
     let counts = b"version 1000.1\nblocks 17\ncalls 13\nframes 1\n";
-    Outside::info(&cut).ends(&rt, 0, counts, b"")
+    Outside::info(&cut).ends(rt.alloc(), 0, counts, b"")
 }
 
 /// All 64 bytes of the memory 12 are mapped.
@@ -148,7 +147,7 @@ fn the_zeros_of_a_large_memory_are_not_written(rt: HostRuntime) -> Result<(), Fa
     }
     let file = sized(rt.alloc(), 268_435_454)?;
     let line = b"bad block 8 at 336: 28 LimitReached\n";
-    Outside::of(&["trim", "2-2"], &file).ends(&rt, 3, b"", line)
+    Outside::of(&["trim", "2-2"], &file).ends(rt.alloc(), 3, b"", line)
 }
 
 #[test]
@@ -166,4 +165,37 @@ fn each_page_that_is_not_zero_is_filled(rt: HostRuntime) -> Result<(), Fail> {
     let cut = with_bytes(with_bytes(cut, 236, &bytes), 392, &bytes);
     assert_eq!(rt; cut.len(), 1359);
     assert_cut(&rt, &filled_twice(rt.alloc())?, "2-2", &cut, SECOND)
+}
+
+/// The image has one byte, 0, and can be presented.
+const EMPTY_TEXEL: &str = "21000000000000000300000003000000000000000000000006000000000000\
+    00eacd9a3b010000000000000000";
+
+#[test]
+fn an_image_that_nothing_was_written_to_is_carried_too(rt: HostRuntime) -> Result<(), Fail> {
+    let second = [&NEXT_FRAME[..2], &ONE_TEXEL[13..]];
+    let mut file = file_of(rt.alloc(), 1, &ONE_TEXEL)?;
+    for blocks in second {
+        append(rt.alloc(), blocks, &mut file)?;
+    }
+    let section = [
+        &ONE_TEXEL[..6],
+        &[STATES[0], EMPTY_TEXEL, STATES[2]],
+        &ONE_TEXEL[7..12],
+    ];
+    let cut = cut_file(rt.alloc(), 2, &section, &second)?;
+    let shown =
+        b"frame 2 1x1 R8_UINT 6e340b9cffb37a989ca544e6bb780a2c78901d3fb33738768511a30617afa01d
+00
+frames 1
+";
+    assert_cut(&rt, &file, "2-2", &cut, shown)?;
+    let first = cut_file(rt.alloc(), 1, &[], &[&ONE_TEXEL])?;
+    assert_eq!(rt; first.len(), 776);
+    let shown =
+        b"frame 1 1x1 R8_UINT 6e340b9cffb37a989ca544e6bb780a2c78901d3fb33738768511a30617afa01d
+00
+frames 1
+";
+    assert_cut(&rt, &file, "1-1", &first, shown)
 }

@@ -1,8 +1,8 @@
 //! Cuts of which a read or a write fails, each in turn.
 
-use crate::cuts::later_cut;
-use crate::files::{NEXT_FRAME, three_frames};
-use crate::outside::{Ended, Outside};
+use gfx_outside::{Ended, Outside};
+use gfx_samples::cuts::later_cut;
+use gfx_samples::files::{NEXT_FRAME, three_frames};
 use std::alloc::{AllocError, Global};
 use std::process::Abort;
 use std::test::Fail;
