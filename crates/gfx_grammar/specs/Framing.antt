@@ -6,7 +6,6 @@ use Rattle.gfx_model.specs.Events.{Event}
 use Rattle.gfx_model.specs.Events.Event.{BeginSection, EndSection}
 use Rattle.gfx_model.specs.Spelling.{HasSpelling, type_of, payload, encoding, header}
 use Rattle.gfx_model.specs.Blocks.{IsThread, u32_at, refuse, options_fault, option_count, header_length, minor_of, Position, size_field, type_field, payload_field, Content, skipped, effect, Whole, End, side_count, next_position}
-use Rattle.gfx_model.specs.Upgraded.{upgraded_block}
 use Rattle.gfx_grammar.specs.Rows.{read_content}
 use Rattle.gfx_grammar.specs.Splitting.{Stops, front, block_at, Blocks}
 
@@ -173,7 +172,3 @@ file_parts m made blocks = map (made_part m) made ++ map part_of blocks
 -- not a marker
 abbrev pub IsUnmarked : Event → Type 0
 IsUnmarked e = (event_begins e ≡ false) × (event_ends e ≡ false)
-
--- a block as an upgrade writes it
-abbrev pub upgraded_part : Whole → Part
-upgraded_part w = record { bytes = upgraded_block w w.content; content = w.content }

@@ -8,10 +8,9 @@ use Rattle.gfx_model.specs.Events.Event.{BeginSection, EndSection}
 use Rattle.gfx_model.specs.Spelling.{header, Spells, id_of, type_of}
 use Rattle.gfx_model.specs.Blocks.{header_fault, refuse, option_count, options_fault, side_count, minor_of, first_position, Whole, clean, next_position, size_field, Content, IsContent, End, AreBlocks, Position, EndsHere, IsFront}
 use Rattle.gfx_model.specs.Trimmed.{file_of}
-use Rattle.gfx_model.specs.Upgraded.{upgraded_by}
 use Rattle.gfx_grammar.specs.Reads.{AreBytes}
 use Rattle.gfx_grammar.specs.Rows.{read_event, read_content}
-use Rattle.gfx_grammar.specs.Framing.{start_fault, head_fault, IsHead, marks, count_fault, side, past, says_begin, says_end, IsHeader, IsBlock, Part, placed, HaveRoom, Splits, CanBeWritten, Written, written_part, written_by, file_parts, IsUnmarked, upgraded_part}
+use Rattle.gfx_grammar.specs.Framing.{start_fault, head_fault, IsHead, marks, count_fault, side, past, says_begin, says_end, IsHeader, IsBlock, Part, placed, HaveRoom, Splits, CanBeWritten, Written, written_part, written_by, file_parts, IsUnmarked}
 use Rattle.gfx_grammar.specs.Splitting.{breaks, with_payload, block_at, front, Stops, Finds, after_front, blocks_from, blocks_of}
 
 -- what is read is spelled so, each byte of it
@@ -126,13 +125,3 @@ FileHasRoom = (m n : ℕ) (made : List Event) (blocks : List Whole)
     → AllByRecursion (CanBeWritten m 0) (BeginSection n ∷ made ++ EndSection n ∷ []) → AllByRecursion IsUnmarked made → length made + 2 ≤ 2 ^ 32
     → AllByRecursion (λ w. IsBlock m w.bytes w.content × AreBytes w.bytes × (says_begin w.content ≡ false)) blocks → length blocks ≤ 2 ^ 32
     → HaveRoom (first_position (header m)) (file_parts m (BeginSection n ∷ made ++ EndSection n ∷ []) blocks)
-
--- a file that is upgraded has just the blocks that are written of its blocks, and ends cleanly
-abbrev pub UpgradedIsRead : Type 0
-UpgradedIsRead = (bytes : List ℕ) → AreBytes bytes
-    → blocks_of (upgraded_by (blocks_of bytes).items) ≡ record { items = placed (first_position (header 2)) (map upgraded_part (blocks_of bytes).items); end = clean }
-
--- and they say the same
-abbrev pub UpgradedSaysTheSame : Type 0
-UpgradedSaysTheSame = (bytes : List ℕ) → AreBytes bytes
-    → map (λ (w : Whole). w.content) (blocks_of (upgraded_by (blocks_of bytes).items)).items ≡ map (λ (w : Whole). w.content) (blocks_of bytes).items

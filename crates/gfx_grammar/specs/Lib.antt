@@ -21,4 +21,3 @@ pub mod SplitLaws
 pub mod HeaderLaws
 pub mod WrittenLaws
 pub mod FileLaws
-pub mod UpgradedLaws

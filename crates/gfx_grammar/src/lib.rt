@@ -1,7 +1,7 @@
 //! The grammar of a capture read by functions, and the laws that they read what is spelled and nothing else.
 #![tactic(auto)]
 
-ghost use Rattle.gfx_grammar.specs.Laws.{ReadIsSpelled, SpelledIsRead, ReadIsContent, ContentIsRead, EndsAreComputed, FrontsAreComputed, BlocksAreComputed, BlocksGoOn, SplitsInOneWay, OthersAreNotRead, HeaderDecides, HeadDecides, PayloadDecides, RestDoesNotMatter, PlaceDoesNotMatter, SaidDecides, PartsAreBlocks, WrittenIsRead, FileIsRead, FileHasRoom, UpgradedIsRead, UpgradedSaysTheSame};
+ghost use Rattle.gfx_grammar.specs.Laws.{ReadIsSpelled, SpelledIsRead, ReadIsContent, ContentIsRead, EndsAreComputed, FrontsAreComputed, BlocksAreComputed, BlocksGoOn, SplitsInOneWay, OthersAreNotRead, HeaderDecides, HeadDecides, PayloadDecides, RestDoesNotMatter, PlaceDoesNotMatter, SaidDecides, PartsAreBlocks, WrittenIsRead, FileIsRead, FileHasRoom};
 
 /// What is read is spelled so, each byte of it.
 pub fn read_is_spelled()
@@ -101,14 +101,4 @@ pub fn file_is_read()
 /// Such a file has room for 2^32 blocks of the section, and as many behind it.
 pub fn file_has_room()
     ensures { FileHasRoom }
-{}
-
-/// A file that is upgraded has just the blocks that are written of its blocks, and ends cleanly.
-pub fn upgraded_is_read()
-    ensures { UpgradedIsRead }
-{}
-
-/// The blocks of a file that is upgraded say what those of the file said.
-pub fn upgraded_says_the_same()
-    ensures { UpgradedSaysTheSame }
 {}

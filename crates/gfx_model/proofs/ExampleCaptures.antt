@@ -4,18 +4,14 @@ use Rattle.gfx_model.specs.Blocks.Content.{effect}
 use Rattle.gfx_model.specs.Bytes.{byte}
 use Rattle.gfx_model.specs.Checks.{broken, layouts_of, turns_fault}
 use Rattle.gfx_model.specs.Effects.{changes_of_command, effect_of}
-use Rattle.gfx_model.specs.EventNames.{event_name}
 use Rattle.gfx_model.specs.Events.{Event}
 use Rattle.gfx_model.specs.Events.Event.{AcquireNextImageKHR, AllocateCommandBuffers, AllocateMemory, BeginCommandBuffer, BindBufferMemory, CmdCopyBufferToImage, CmdPipelineBarrier, CreateBuffer, CreateCommandPool, CreateDevice, CreateFence, CreateHeadlessSurfaceEXT, CreateInstance, CreateSemaphore, CreateSwapchainKHR, EndCommandBuffer, FillMemory, GetDeviceQueue, GetSwapchainImagesKHR, MapMemory, QueuePresentKHR, QueueSubmit, ResetFences}
 use Rattle.gfx_model.specs.Frames.{frames}
 use Rattle.gfx_model.specs.History.{onto, steps}
-use Rattle.gfx_model.specs.Ids.{defines_of, map_ids, uses_of}
-use Rattle.gfx_model.specs.Lean.{arrives, kept_section}
 use Rattle.gfx_model.specs.Meaning.{judge}
 use Rattle.gfx_model.specs.Questions.{acquired, bound, buffer, executed_changes, ids, layout, live, mapped, next_frame, open_section, signalled, used}
 use Rattle.gfx_model.specs.Section.{fills_of, section}
 use Rattle.gfx_model.specs.Spelling.{encoding, fields_of, id_of, payload, spelling, type_of}
-use Rattle.gfx_model.specs.Statements.{statement_tokens}
 use Rattle.gfx_model.specs.Steps.{resources_of}
 use Rattle.gfx_model.specs.Table.{place_of, row_of}
 use Rattle.gfx_model.specs.Trimmed.{cut_before}
@@ -27,7 +23,7 @@ use Rattle.std.specs.Prelude.{List, [], drop, flat_map, length, map, sum, take, 
 
 -- opens the definitions that are computed
 unfoldable pub opened : ℕ
-unfolding fields_of spelling id_of type_of payload encoding resources_of live ids used bound mapped buffer signalled acquired executed_changes layout next_frame open_section layouts_of turns_fault broken place_of row_of changes_of_command effect_of steps byte frames section fills_of header_fault framing_fault judge cut_before event_name uses_of defines_of map_ids statement_tokens kept_section arrives digits
+unfolding fields_of spelling id_of type_of payload encoding resources_of live ids used bound mapped buffer signalled acquired executed_changes layout next_frame open_section layouts_of turns_fault broken place_of row_of changes_of_command effect_of steps byte frames section fills_of header_fault framing_fault judge cut_before digits
 opened = 0
 
 -- the calls of the smallest capture that shows a frame of three bytes

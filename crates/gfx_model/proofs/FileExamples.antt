@@ -1,6 +1,5 @@
 -- Examples of what whole files say.
-use Rattle.std.proofs.Common.{get_or, ◌≡◌, ◌∙◌, ◌+◌, map, false, ℕ, List, [], ◌∷◌, ◌++◌, length, refl, ap, arith}
-use Rattle.std.specs.Prelude.{codes}
+use Rattle.std.proofs.Common.{◌≡◌, ℕ, List, [], ◌∷◌, ◌++◌, length, refl, ap, arith}
 use Rattle.gfx_types.specs.declared.call.Call.TheVariants as call
 use Rattle.gfx_types.specs.declared.effect.Effect.TheVariants as made
 use Rattle.gfx_types.specs.declared.op.Place.TheVariants as place
@@ -17,15 +16,6 @@ use Rattle.gfx_model.specs.Blocks.Content.{effect}
 use Rattle.gfx_model.specs.Blocks.End.{clean, bad}
 use Rattle.gfx_model.specs.Meaning.{Means, MeansUpTo, RangeEnd}
 use Rattle.gfx_model.specs.Trimmed.{IsTrimmed}
-use Rattle.std.proofs.lemmas.List.{length-append}
-use Rattle.gfx_types.specs.declared.lists.Present.{Present}
-use Rattle.gfx_model.specs.Events.Event.{QueuePresentKHR}
-use Rattle.gfx_model.specs.Spelling.{id_of}
-use Rattle.gfx_model.specs.History.{view}
-use Rattle.gfx_model.specs.Lean.{Keep, Needed, IsLean}
-use Rattle.gfx_model.specs.Lean.Needed.{by_name, as_parent, as_memory, as_surface, as_image, as_resource}
-use Rattle.gfx_model.specs.Listing.{IsListing}
-use Rattle.gfx_model.specs.Upgraded.{IsUpgraded}
 
 -- a call whose bytes lie anywhere is one event
 ex_event : event_of (made.Call (call.CreateInstance 1 2)) ≡ CreateInstance 1 2
@@ -42,13 +32,13 @@ unfolding all
 ex_empty = (refl, refl)
 
 -- an effect that no capture begins with, alone in a file
-first : Event
+unfoldable pub first : Event
 first = DestroyInstance 7
 
-unfoldable file : List ℕ
+unfoldable pub file : List ℕ
 file = header 1 ++ encoding 1 0 first
 
-block : Whole
+unfoldable pub block : Whole
 block = record { number = 1; offset = 16; bytes = encoding 1 0 first; content = effect 0 first }
 
 ex_spelled : Spells 1 first (spelling 1 first)
@@ -56,7 +46,7 @@ unfolding all first
 ex_spelled = record { fits = record { version = tt; fields = (omega arith, tt) }; same = refl }
 
 -- it is the one block of the file
-ex_blocks : AreBlocks file (block ∷ []) clean
+pub ex_blocks : AreBlocks file (block ∷ []) clean
 unfolding all first file block
 ex_blocks = (
   record {
@@ -78,56 +68,7 @@ ex_means = record { blocks = block ∷ []; blocks_end = clean; are = ex_blocks; 
 ex_means_to : MeansUpTo 3 file [] (RangeEnd.ended (bad NotLive 1 16))
 ex_means_to = record { all = []; file_end = bad NotLive 1 16; means = ex_means; shows = refl; ends = refl }
 
--- its listing, and the file in version 2
-ex_listing : IsListing file (codes "gfxr 1000.1\nthread=0 vkDestroyInstance instance=7\n")
-unfolding all first file block
-ex_listing = record { blocks = block ∷ []; are = ex_blocks; same = refl }
-
-ex_upgraded : IsUpgraded file (header 2 ++ encoding 1 0 first)
-unfolding all first file block
-ex_upgraded = record { blocks = block ∷ []; end = clean; are = ex_blocks; same = refl }
-
 -- without presents, frame 1 begins right after the header: an empty section, and nothing needed
 ex_trimmed : IsTrimmed 1 1 file (header 1 ++ encoding 1 0 (BeginSection 1) ++ encoding 1 0 (EndSection 1) ++ encoding 1 0 first)
 unfolding all first file block
 ex_trimmed = record { blocks = block ∷ []; end = clean; are = ex_blocks; same = refl }
-
--- ---- the lean file: an end that shows nothing needs nothing
-
-unfoldable nothing : Keep
-nothing = record { id = λ x. false; fill = λ m offset n. false }
-
-none_needed : (x : ℕ) → Needed (view []) (first ∷ []) x → ⊥
-unfolding all
-none_needed _ (by_name x is_live named) = absurd cc
-none_needed _ (as_parent x is_live n) = none_needed x n
-none_needed _ (as_memory x m usable is n) = none_needed x n
-none_needed _ (as_surface x s is n) = none_needed x n
-none_needed _ (as_image x i is n) = none_needed x n
-none_needed _ (as_resource cb r kept is n) = none_needed cb n
-
-heads : (a b : ℕ) {rest : List ℕ} → a ∷ [] ≡ b ∷ rest → a ≡ b
-heads a b e = ap (λ (l : List ℕ). get_or l 0 0) e
-
-no_present : (front : List Event) (queue : ℕ) (waits : List ℕ) (presents : List Present) (rest : List Event) →
-    first ∷ [] ≡ front ++ QueuePresentKHR queue waits presents ∷ rest → ⊥
-unfolding all first
-no_present [] queue waits presents rest e = omega (arith, heads 2 48 (ap (map id_of) e))
-no_present (f ∷ fs) queue waits presents rest e =
-    let n : 1 ≡ length (f ∷ fs) + length (QueuePresentKHR queue waits presents ∷ rest) = ap length e ∙ length-append (f ∷ fs) _ in omega arith
-
-ex_lean : IsLean 1 1 file (header 1 ++ encoding 1 0 (BeginSection 1) ++ encoding 1 0 (EndSection 1) ++ encoding 1 0 first)
-unfolding all first file block nothing
-ex_lean = record {
-  blocks = block ∷ [];
-  end = clean;
-  are = ex_blocks;
-  keep = nothing;
-  keeps = record {
-    needed = λ x n. absurd (none_needed x n);
-    only = λ x e. absurd cc;
-    asked = λ m offset n j above below a. absurd (no_present a.front a.queue a.waits a.presents a.rest a.stands);
-    only_asked = λ m offset n e. absurd cc;
-  };
-  same = refl;
-}

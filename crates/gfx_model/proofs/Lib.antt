@@ -1,14 +1,12 @@
-mod ExampleCaptures
+pub mod ExampleCaptures
 mod SpellingExamples
 mod FaultExamples
 mod WordExamples
 mod FrameExamples
-mod SectionExamples
-mod PageExamples
+pub mod SectionExamples
+pub mod PageExamples
 mod TextExamples
-mod FileExamples
-mod ScriptExamples
-mod RunExamples
+pub mod FileExamples
 pub mod Stand
 pub mod Steps
 pub mod Covered

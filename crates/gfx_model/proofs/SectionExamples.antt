@@ -7,13 +7,11 @@ use Rattle.gfx_model.specs.Events.{Event}
 use Rattle.gfx_model.specs.Events.Event.{AcquireNextImageKHR, AllocateCommandBuffers, BeginCommandBuffer, BindBufferMemory, CmdCopyBufferToImage, CmdPipelineBarrier, CreateBuffer, EndCommandBuffer, FreeMemory, GetDeviceQueue, QueuePresentKHR, QueueSubmit, ResetFences}
 use Rattle.gfx_model.specs.Frames.{frames}
 use Rattle.gfx_model.specs.History.{is_valid, onto}
-use Rattle.gfx_model.specs.Lean.{Keep, kept_section}
 use Rattle.gfx_model.specs.Section.{nonzero, section, span_of}
 use Rattle.gfx_model.specs.Spelling.{encoding, header, id_of}
 use Rattle.gfx_model.specs.Trimmed.{boundary, trimmed_by}
-use Rattle.gfx_model.specs.Upgraded.{upgraded_by}
 use Rattle.gfx_types.specs.declared.names.Format.TheVariants.{R8Uint}
-use Rattle.std.specs.Prelude.{List, Some, [], drop, flat_map, length, map, not, refl, take, true, ℕ, ◌++◌, ◌+◌, ◌==◌, ◌∷◌, ◌≡◌}
+use Rattle.std.specs.Prelude.{List, Some, [], drop, flat_map, length, map, refl, take, true, ℕ, ◌++◌, ◌+◌, ◌∷◌, ◌≡◌}
 use Rattle.gfx_types.specs.declared.op.Place.TheVariants as place
 use Rattle.gfx_model.specs.Steps.Change.{put}
 use Rattle.gfx_model.specs.Blocks.Content.{skipped}
@@ -74,7 +72,7 @@ unfolding all again
 ex_trim_again = refl
 
 -- frame 3 records the buffer anew from it
-from_other : List Event
+unfoldable pub from_other : List Event
 from_other =
     CreateBuffer 3 13 16 1 ∷
     BindBufferMemory 3 13 12 0 ∷
@@ -85,7 +83,7 @@ from_other =
     EndCommandBuffer 11 ∷
     frame2
 
-before_3 : List Event
+unfoldable pub before_3 : List Event
 before_3 = onto (take 21 f1 ++ other_memory ++ drop 21 f1 ++ frame2) []
 
 ex_other_memory : pixels_of (frames (onto from_other (onto (section before_3 3) []))) ≡ 120 ∷ 121 ∷ 122 ∷ []
@@ -106,19 +104,12 @@ ex_signal_kept : is_valid (onto waits_for_it (onto (section before_2 2) [])) ≡
 unfolding all before_2 waits_for_it
 ex_signal_kept = refl
 
-with_other : List Event
+unfoldable pub with_other : List Event
 with_other = onto (take 21 f1 ++ other_memory ++ drop 21 f1) []
-
-without_12 : Keep
-without_12 = record { id = λ x. not (x == 12); fill = λ m offset n. true }
 
 ex_trim_other : 16 + bytes_of (section with_other 2) + bytes_of frame2 ≡ 1465
 unfolding all with_other
 ex_trim_other = refl
-
-ex_lean_other : 16 + bytes_of (kept_section without_12 with_other 2) + bytes_of frame2 ≡ 1310
-unfolding all with_other without_12
-ex_lean_other = refl
 
 -- the frames of the file are 1 to 3
 ex_numbers : map (λ f. f.number) (frames (onto f3 [])) ≡ 1 ∷ 2 ∷ 3 ∷ []
@@ -170,20 +161,6 @@ ex_trim_both = refl
 ex_trim_minor : take 16 (trimmed_by 2 1 1 (boundary 1 (wholes 2 1 16 (z2 both)))) ≡ header 2
 unfolding all
 ex_trim_minor = refl
-
--- trimming the file in version 2 is the trimmed file in version 2
-ex_trim_upgraded : trimmed_by 2 2 2 (boundary 2 (wholes 2 1 16 f3)) ≡ upgraded_by (wholes 1 1 16 (section (after 22) 2 ++ frame2))
-unfolding all
-ex_trim_upgraded = refl
-
-ex_trim_upgraded_bytes : length (trimmed_by 2 2 2 (boundary 2 (wholes 2 1 16 f3))) ≡ 1314
-unfolding all
-ex_trim_upgraded_bytes = refl
-
--- the memory that frame 3 reads from is kept
-ex_lean_read : pixels_of (frames (onto from_other (onto (kept_section (record { id = λ x. true; fill = λ m offset n. m == 12 }) before_3 3) []))) ≡ 120 ∷ 121 ∷ 122 ∷ []
-unfolding all before_3 from_other
-ex_lean_read = refl
 
 -- from the first byte that isn't 0 to the last
 ex_span : span_of (nonzero (byte (put (place.Memory 8) 3 (1 ∷ 0 ∷ 2 ∷ []) ∷ []) (place.Memory 8)) 0 8) ≡ Some (record { at = 3; length = 3 })

@@ -12,7 +12,7 @@ use Rattle.gfx_model.specs.Steps.Change.{put, fill, copy, set_layout}
 use Rattle.gfx_model.specs.Questions.{is_kept}
 use Rattle.gfx_model.specs.Views.{View, is_usable, parent_of, size_of, fetched, image_at}
 use Rattle.gfx_model.specs.Bytes.{covers_byte}
-use Rattle.gfx_model.specs.Ids.{uses_of, defines_of}
+use Rattle.gfx_script_model.specs.Ids.{uses_of, defines_of}
 use Rattle.gfx_model.specs.Covers.{is_fetched}
 use Rattle.gfx_model.specs.History.{onto, view, executed}
 use Rattle.gfx_model.specs.Section.{section}

@@ -3,9 +3,9 @@ use Rattle.std.specs.Prelude.{◌≡◌, ◌^◌, ℕ, ◌+◌, min, ◌==◌, n
 use Rattle.std.specs.List.{list_any, list_all, position_from}
 use Rattle.gfx_model.specs.Events.{Event}
 use Rattle.gfx_model.specs.Checks.{same_list}
-use Rattle.gfx_model.specs.Ids.{uses_of, defines_of, map_ids}
-use Rattle.gfx_model.specs.Statements.{Form, IsForm, lines_of, tokens_of, is_empty, show}
-use Rattle.gfx_model.specs.Statements.Form.{skips, sets_version, begins_phase, begins_thread, states}
+use Rattle.gfx_script_model.specs.Ids.{uses_of, defines_of, map_ids}
+use Rattle.gfx_script_model.specs.Statements.{Form, IsForm, lines_of, tokens_of, is_empty, show}
+use Rattle.gfx_script_model.specs.Statements.Form.{skips, sets_version, begins_phase, begins_thread, states}
 
 -- ---- what has been read
 

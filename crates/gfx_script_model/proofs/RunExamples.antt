@@ -1,11 +1,11 @@
 -- Examples of runs of scripts.
 use Rattle.std.proofs.Common.{◌≡◌, ℕ, zero, suc, ◌==◌, if◌then◌else◌, List, [], ◌∷◌, take, Option, Some, None, refl, sym, ◌∙◌, arith, inr}
-use Rattle.gfx_model.proofs.ExampleCaptures.{all}
+use Rattle.gfx_script_model.proofs.Opened.{all}
 use Rattle.gfx_model.specs.Events.Event.{CreateInstance, DestroyInstance}
-use Rattle.gfx_model.specs.Scripts.{Line, Part}
-use Rattle.gfx_model.specs.Runs.{Entry, Runs, Matches, Stopped, Safe, lines_of_phase}
+use Rattle.gfx_script_model.specs.Scripts.{Line, Part}
+use Rattle.gfx_script_model.specs.Runs.{Entry, Runs, Matches, Stopped, Safe, lines_of_phase}
 use Rattle.gfx_model.proofs.ExampleCaptures.{f1, region}
-use Rattle.gfx_model.specs.Runs.{log_length}
+use Rattle.gfx_script_model.specs.Runs.{log_length}
 use Rattle.gfx_model.specs.Events.{Event}
 use Rattle.gfx_model.specs.Events.Event.{CmdCopyBufferToImage}
 use Rattle.std.proofs.Common.{◌+◌, ◌++◌, map, drop}

@@ -1,20 +1,20 @@
 -- Examples of scripts.
-use Rattle.gfx_model.proofs.ExampleCaptures.{all}
+use Rattle.gfx_script_model.proofs.Opened.{all}
 use Rattle.gfx_model.specs.Events.Event.{AllocateCommandBuffers, CmdPipelineBarrier, CreateInstance, FillMemory, QueuePresentKHR, QueueSubmit}
-use Rattle.gfx_model.specs.Statements.{statement_tokens, tokens_of}
+use Rattle.gfx_script_model.specs.Statements.{statement_tokens, tokens_of}
 use Rattle.std.proofs.Common.{arith}
 use Rattle.std.specs.Prelude.{[], codes, refl, ◌∷◌, ◌≡◌}
-use Rattle.gfx_model.specs.Statements.{IsStatement}
+use Rattle.gfx_script_model.specs.Statements.{IsStatement}
 use Rattle.gfx_model.specs.Events.Event.{DeviceWaitIdle}
-use Rattle.gfx_model.specs.Statements.Form.{skips, sets_version, begins_phase, begins_thread, states}
-use Rattle.gfx_model.specs.Scripts.{Outcome, Reading, Parses, at_first}
-use Rattle.gfx_model.specs.Scripts.Outcome.{refuses}
-use Rattle.gfx_model.specs.Scripts.Kind.{structure, name_taken, name_unknown, bad_byte}
-use Rattle.gfx_model.specs.Scripts.Parsed.{parses, fails}
+use Rattle.gfx_script_model.specs.Statements.Form.{skips, sets_version, begins_phase, begins_thread, states}
+use Rattle.gfx_script_model.specs.Scripts.{Outcome, Reading, Parses, at_first}
+use Rattle.gfx_script_model.specs.Scripts.Outcome.{refuses}
+use Rattle.gfx_script_model.specs.Scripts.Kind.{structure, name_taken, name_unknown, bad_byte}
+use Rattle.gfx_script_model.specs.Scripts.Parsed.{parses, fails}
 use Rattle.gfx_model.proofs.ExampleCaptures.{f1}
 use Rattle.std.specs.Prelude.{ℕ, List, map}
-use Rattle.gfx_model.specs.Scripts.{Line, outcome_of}
-use Rattle.gfx_model.specs.Statements.{IsForm}
+use Rattle.gfx_script_model.specs.Scripts.{Line, outcome_of}
+use Rattle.gfx_script_model.specs.Statements.{IsForm}
 use Rattle.gfx_model.specs.Events.Event.{DestroyInstance}
 
 ex_create : tokens_of (codes "inst = vkCreateInstance  api=4194304 ") ≡ statement_tokens 1 (codes "inst" ∷ []) (CreateInstance 1 4194304)

@@ -5,8 +5,8 @@ use Rattle.gfx_model.specs.Events.{Event}
 use Rattle.gfx_model.specs.Spelling.{type_of}
 use Rattle.gfx_model.specs.Text.{line, hex_text}
 use Rattle.gfx_model.specs.Fields.{named_fields}
-use Rattle.gfx_model.specs.EventNames.{event_name}
-use Rattle.gfx_model.specs.FieldText.{field_text}
+use Rattle.gfx_script_model.specs.EventNames.{event_name}
+use Rattle.gfx_script_model.specs.FieldText.{field_text}
 use Rattle.gfx_model.specs.Blocks.{Content, Whole, AreBlocks, minor_of, option_count, u32_at, type_field, payload_field}
 use Rattle.gfx_model.specs.Blocks.Content.{skipped, effect}
 use Rattle.gfx_model.specs.Blocks.End.{clean}

@@ -5,9 +5,9 @@ use Rattle.gfx_model.specs.Events.{Event}
 use Rattle.gfx_model.specs.Events.Event.{FillMemory}
 use Rattle.gfx_model.specs.Spelling.{FieldFits, IsOfVersion, fields_of, type_of}
 use Rattle.gfx_model.specs.Fields.{Atom, Value, atoms_of, named_fields, is_made}
-use Rattle.gfx_model.specs.EventNames.{event_name}
-use Rattle.gfx_model.specs.FieldText.{field_text}
-use Rattle.gfx_model.specs.Ids.{defines_of}
+use Rattle.gfx_script_model.specs.EventNames.{event_name}
+use Rattle.gfx_script_model.specs.FieldText.{field_text}
+use Rattle.gfx_script_model.specs.Ids.{defines_of}
 
 -- ---- lines and tokens
 

@@ -3,10 +3,10 @@ use Rattle.std.specs.Prelude.{◌≡◌, zero, suc, not, nat_le, if◌then◌els
 use Rattle.std.specs.List.{list_any, list_all, AllByRecursion}
 use Rattle.gfx_model.specs.Events.{Event}
 use Rattle.gfx_model.specs.Spelling.{header, encoding}
-use Rattle.gfx_model.specs.Ids.{map_ids, uses_of, defines_of}
+use Rattle.gfx_script_model.specs.Ids.{map_ids, uses_of, defines_of}
 use Rattle.gfx_model.specs.Checks.{is_distinct}
 use Rattle.gfx_model.specs.History.{view, fault, is_valid}
-use Rattle.gfx_model.specs.Scripts.{Line, Part}
+use Rattle.gfx_script_model.specs.Scripts.{Line, Part}
 
 -- an event under its thread
 pub record Entry : Type 0 where

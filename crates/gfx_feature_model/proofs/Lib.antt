@@ -1,0 +1,5 @@
+mod Opened
+mod LeanExamples
+mod ListingExamples
+mod UpgradedExamples
+pub mod UpgradedLaws

@@ -1,0 +1,4 @@
+pub mod Lean
+pub mod Listing
+pub mod Upgraded
+pub mod Laws

@@ -1,0 +1,6 @@
+pub mod EventNames
+pub mod Ids
+pub mod FieldText
+pub mod Statements
+pub mod Scripts
+pub mod Runs
