@@ -10,7 +10,7 @@ use Rattle.gfx_model.specs.Blocks.{Content, skipped, effect, is_skipped, u32_at}
 use Rattle.gfx_grammar.specs.Reading.{◌>>=◌, read_number}
 use Rattle.gfx_grammar.specs.Rows.{with1, by_row, read_event, read_content, read_payload}
 use Rattle.gfx_grammar.specs.Splitting.{payload_fault}
-use Rattle.gfx_grammar.specs.NoRowLaws.{others_are_not_read}
+use Rattle.gfx_grammar.proofs.NoRowLaws.{others_are_not_read}
 use Rattle.gfx_blocks.specs.Payloads.{IsNumber, IsNoNumber}
 
 -- nothing is said, for this reason

@@ -9,9 +9,9 @@ use Rattle.gfx_model.specs.Blocks.{Position, Content, bad, clean, next_position,
 use Rattle.gfx_grammar.specs.Framing.{IsBlock, head_fault, marks, past, side}
 use Rattle.gfx_grammar.specs.Rows.{read_content}
 use Rattle.gfx_grammar.specs.Splitting.{Stops, blocks_from, breaks, front, only_end, payload_fault, with_item, with_payload}
-use Rattle.gfx_grammar.specs.FramingLaws.{head_fault-append, next_position-past, refuse-false, refuse-true, side_count-side, size_field-append, type_field-append}
-use Rattle.gfx_grammar.specs.FrontLaws.{front-empty, front-payload-count_fault, front-with_payload}
-use Rattle.gfx_grammar.specs.AloneLaws.{blocks_from-append, blocks_from-as}
+use Rattle.gfx_grammar.proofs.FramingLaws.{head_fault-append, next_position-past, refuse-false, refuse-true, side_count-side, size_field-append, type_field-append}
+use Rattle.gfx_grammar.proofs.FrontLaws.{front-empty, front-payload-count_fault, front-with_payload}
+use Rattle.gfx_grammar.proofs.AloneLaws.{blocks_from-append, blocks_from-as}
 use Rattle.gfx_blocks.specs.Payloads.{content_of}
 use Rattle.gfx_io.specs.Told.{IfTold}
 use Rattle.gfx_decode.specs.declared.decoder.Raw.{Raw}

@@ -8,7 +8,7 @@ use Rattle.gfx_types.specs.declared.names.Fault.TheVariants.{Truncated}
 use Rattle.gfx_model.specs.Blocks.{Position}
 use Rattle.gfx_grammar.specs.Framing.{IsHead, count_fault}
 use Rattle.gfx_grammar.specs.Splitting.{breaks, front}
-use Rattle.gfx_grammar.specs.FrontLaws.{front-short, front-cut, front-cut-count_fault, whole-front}
+use Rattle.gfx_grammar.proofs.FrontLaws.{front-short, front-cut, front-cut-count_fault, whole-front}
 use Rattle.gfx_decode.specs.declared.fault.DecodeFault.{DecodeFault}
 use Rattle.gfx_decode.specs.declared.fault.DecodeFault.TheVariants.{Bad, ReadFault, WantMemory}
 use Rattle.gfx_decode.specs.Reading.{HasNoBlock, IsCutFault, StopsAt, StopsInBytes, StopsInPayload, StopsShort}

@@ -6,9 +6,9 @@ use Rattle.gfx_io.specs.Told.{IfTold}
 use Rattle.gfx_types.specs.declared.names.Fault.{Fault}
 use Rattle.gfx_model.specs.Blocks.{Position, Whole, End, bad, header_fault}
 use Rattle.gfx_grammar.specs.Framing.{with_items}
-use Rattle.gfx_grammar.specs.HeaderLaws.{blocks_of-bad, header_good}
+use Rattle.gfx_grammar.proofs.HeaderLaws.{blocks_of-bad, header_good}
 use Rattle.gfx_grammar.specs.Splitting.{Front, Stops, Finds, blocks_from, blocks_of, front, only_end}
-use Rattle.gfx_grammar.specs.AloneLaws.{blocks_from-as}
+use Rattle.gfx_grammar.proofs.AloneLaws.{blocks_from-as}
 use Rattle.gfx_decode.specs.declared.fault.DecodeFault.TheVariants.{ReadFault}
 use Rattle.gfx_decode.specs.Stage.{Stage, Fresh, At, Failed}
 use Rattle.gfx_decode.specs.Reading.{HasNoBlock, IsHeaderCut, StopsAt, StopsInHeader}

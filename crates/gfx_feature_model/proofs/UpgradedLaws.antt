@@ -12,16 +12,16 @@ use Rattle.gfx_model.specs.Spelling.{Field, HasSpelling, spelling, fields_of, pa
 use Rattle.gfx_feature_model.specs.Upgraded.{upgraded_by, upgraded_block, upgraded_event}
 use Rattle.gfx_model.specs.Blocks.{IsThread, IsContent, Content, skipped, effect, Whole, End, clean, header_fault, header_length, minor_of, first_position, Position, type_field, payload_field, size_field, is_marker, is_inside, side_count, next_position}
 use Rattle.gfx_grammar.specs.Reads.{AreBytes, text_of}
-use Rattle.gfx_grammar.specs.NumberLaws.{AreBytes-drop, AreBytes-take}
-use Rattle.gfx_grammar.specs.ReaderLaws.{text_of-append, Fits-parts, Fits-append}
+use Rattle.gfx_grammar.proofs.NumberLaws.{AreBytes-drop, AreBytes-take}
+use Rattle.gfx_grammar.proofs.ReaderLaws.{text_of-append, Fits-parts, Fits-append}
 use Rattle.gfx_grammar.specs.Framing.{IsBlock, CanBeWritten, Part, placed, HaveRoom, Splits, side, says_begin, says_end}
-use Rattle.gfx_grammar.specs.FramingLaws.{head-bounds}
-use Rattle.gfx_grammar.specs.SaidLaws.{block-says}
-use Rattle.gfx_grammar.specs.ContentLaws.{read_is_content, content_is_read}
-use Rattle.gfx_grammar.specs.WrittenLaws.{encoding-block, encoding-says, header-good, blocks_of-parts}
-use Rattle.gfx_grammar.specs.RoomLaws.{placed-says}
-use Rattle.gfx_grammar.specs.SplitLaws.{splits_in_one_way}
-use Rattle.gfx_grammar.specs.HeaderLaws.{header_good, start_minor, blocks_of-good, blocks_of-bad}
+use Rattle.gfx_grammar.proofs.FramingLaws.{head-bounds}
+use Rattle.gfx_grammar.proofs.SaidLaws.{block-says}
+use Rattle.gfx_grammar.proofs.ContentLaws.{read_is_content, content_is_read}
+use Rattle.gfx_grammar.proofs.WrittenLaws.{encoding-block, encoding-says, header-good, blocks_of-parts}
+use Rattle.gfx_grammar.proofs.RoomLaws.{placed-says}
+use Rattle.gfx_grammar.proofs.SplitLaws.{splits_in_one_way}
+use Rattle.gfx_grammar.proofs.HeaderLaws.{header_good, start_minor, blocks_of-good, blocks_of-bad}
 use Rattle.gfx_grammar.specs.Splitting.{Blocks, blocks_from, blocks_of}
 use Rattle.gfx_feature_model.specs.Laws.{upgraded_part, UpgradedIsRead, UpgradedSaysTheSame}
 

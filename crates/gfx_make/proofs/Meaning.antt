@@ -13,9 +13,9 @@ use Rattle.gfx_model.specs.Trimmed.{file_of}
 use Rattle.gfx_model.proofs.Lists.{all_along}
 use Rattle.gfx_grammar.specs.Framing.{Part, CanBeWritten, placed, made_part, file_parts}
 use Rattle.gfx_grammar.specs.Splitting.{Blocks, blocks_of}
-use Rattle.gfx_grammar.specs.BlockLaws.{blocks_are_computed}
-use Rattle.gfx_grammar.specs.FileLaws.{file_is_read}
-use Rattle.gfx_grammar.specs.RoomLaws.{few-room}
+use Rattle.gfx_grammar.proofs.BlockLaws.{blocks_are_computed}
+use Rattle.gfx_grammar.proofs.FileLaws.{file_is_read}
+use Rattle.gfx_grammar.proofs.RoomLaws.{few-room}
 use Rattle.gfx_grammar.specs.Reads.{AreBytes}
 use Rattle.gfx_trim_law.proofs.Keeps.{trimming_keeps_frames}
 use Rattle.gfx_trim_law.proofs.Prefix.{judge-valid}

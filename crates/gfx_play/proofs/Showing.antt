@@ -10,7 +10,7 @@ use Rattle.gfx_model.specs.History.{is_valid}
 use Rattle.gfx_model.specs.Frames.{frames}
 use Rattle.gfx_model.specs.Meaning.{Judged, judge, content_fault}
 use Rattle.gfx_model.specs.Text.{count_line}
-use Rattle.gfx_grammar.specs.HeaderLaws.{minor_of-append}
+use Rattle.gfx_grammar.proofs.HeaderLaws.{minor_of-append}
 use Rattle.gfx_grammar.specs.Splitting.{Blocks}
 use Rattle.gfx_trim_law.proofs.Cuts.{onto_parts}
 use Rattle.gfx_decode.specs.Stage.{Stage, At}

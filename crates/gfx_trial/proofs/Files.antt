@@ -10,7 +10,7 @@ use Rattle.gfx_model.specs.Blocks.End.{clean}
 use Rattle.gfx_model.specs.Frames.{frames}
 use Rattle.gfx_model.specs.History.{is_valid}
 use Rattle.gfx_model.specs.Meaning.{Means, frames_to, has_frame}
-use Rattle.gfx_grammar.specs.BlockLaws.{blocks_are_computed}
+use Rattle.gfx_grammar.proofs.BlockLaws.{blocks_are_computed}
 use Rattle.gfx_grammar.specs.Reads.{AreBytes}
 use Rattle.gfx_grammar.specs.Splitting.{Blocks, blocks_of}
 use Rattle.gfx_trim_law.specs.Law.{frames_from}

@@ -18,7 +18,7 @@ use Rattle.gfx_model.specs.Meaning.{Judged, content_fault, content_onto, has_fra
 use Rattle.gfx_model.specs.Trimmed.{Cut, cut_before, reaches, is_first, boundary, has_boundary, history_to, range_from, trimmed_by}
 use Rattle.gfx_model.proofs.Cutting.{shown_is_reached}
 use Rattle.gfx_model.proofs.Lists.{all_along}
-use Rattle.gfx_grammar.specs.HeaderLaws.{minor_of-append}
+use Rattle.gfx_grammar.proofs.HeaderLaws.{minor_of-append}
 use Rattle.gfx_grammar.specs.Reads.{AreBytes}
 use Rattle.gfx_grammar.specs.Splitting.{Blocks, blocks_of, only_end, with_item}
 use Rattle.gfx_trim_law.proofs.Boundary.{at_boundary, boundary_there}

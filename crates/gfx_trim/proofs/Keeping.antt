@@ -12,7 +12,7 @@ use Rattle.gfx_model.specs.Trimmed.{reaches, boundary, has_boundary, history_to,
 use Rattle.gfx_model.proofs.Lists.{any_append}
 use Rattle.gfx_model.proofs.Cutting.{trimmed_follows}
 use Rattle.gfx_laws.specs.Laws.{frames_after}
-use Rattle.gfx_grammar.specs.BlockLaws.{blocks_are_computed}
+use Rattle.gfx_grammar.proofs.BlockLaws.{blocks_are_computed}
 use Rattle.gfx_grammar.specs.Reads.{AreBytes}
 use Rattle.gfx_grammar.specs.Splitting.{Blocks, blocks_of}
 use Rattle.gfx_trim_law.specs.Law.{HasRange}

@@ -10,7 +10,7 @@ use Rattle.gfx_model.specs.Spelling.{Field, FieldFits, field_bytes, HasSpelling,
 use Rattle.gfx_model.specs.Spelling.Field.{id, u64, u32, raw}
 use Rattle.gfx_model.specs.Trimmed.{file_of}
 use Rattle.gfx_grammar.specs.Reads.{AreBytes}
-use Rattle.gfx_grammar.specs.NumberLaws.{all_bytes}
+use Rattle.gfx_grammar.proofs.NumberLaws.{all_bytes}
 use Rattle.gfx_model.proofs.Lists.{all_append}
 
 abbrev IsByte : ℕ → Type 0

@@ -26,7 +26,7 @@ use Rattle.gfx_grammar.specs.Reading.{read_both, read_number, read_raw, read_as,
 use Rattle.gfx_grammar.specs.Rows.{exactly, present_row, by_row, read_event, read_payload, read_content}
 use Rattle.gfx_grammar.specs.Splitting.{front, blocks_within, blocks_from, blocks_of}
 use Rattle.gfx_grammar.specs.Reads.{AreBytes}
-use Rattle.gfx_grammar.specs.BlockLaws.{blocks_are_computed}
+use Rattle.gfx_grammar.proofs.BlockLaws.{blocks_are_computed}
 use Rattle.gfx_trim_law.specs.Law.{HasRange}
 use Rattle.gfx_trim_law.proofs.Bytes.{are_bytes}
 use Rattle.gfx_trim_law.proofs.Keeps.{trimming_keeps_frames}

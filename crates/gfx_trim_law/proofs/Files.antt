@@ -9,12 +9,12 @@ use Rattle.gfx_model.specs.Blocks.End.{bad}
 use Rattle.gfx_model.specs.Frames.{frames}
 use Rattle.gfx_model.specs.Meaning.{MeansUpTo, RangeEnd, events_onto, judge, frames_to, has_frame}
 use Rattle.gfx_grammar.specs.Reads.{AreBytes}
-use Rattle.gfx_grammar.specs.NumberLaws.{AreBytes-drop}
+use Rattle.gfx_grammar.proofs.NumberLaws.{AreBytes-drop}
 use Rattle.gfx_grammar.specs.Splitting.{Blocks, blocks_from, blocks_of, only_end}
 use Rattle.gfx_grammar.specs.Framing.{HaveRoom, Splits, part_of}
-use Rattle.gfx_grammar.specs.BlockLaws.{blocks_are_computed}
-use Rattle.gfx_grammar.specs.SplitLaws.{splits_in_one_way}
-use Rattle.gfx_grammar.specs.HeaderLaws.{header_good, start_minor, blocks_of-good, blocks_of-bad}
+use Rattle.gfx_grammar.proofs.BlockLaws.{blocks_are_computed}
+use Rattle.gfx_grammar.proofs.SplitLaws.{splits_in_one_way}
+use Rattle.gfx_grammar.proofs.HeaderLaws.{header_good, start_minor, blocks_of-good, blocks_of-bad}
 use Rattle.gfx_trim_law.proofs.Prefix.{Prefix, prefix}
 use Rattle.gfx_trim_law.proofs.Standing.{IsStanding, splits-standing}
 

@@ -9,12 +9,12 @@ use Rattle.gfx_model.specs.Meaning.{Judged, events_onto, RangeEnd, judge, frames
 use Rattle.gfx_model.specs.Trimmed.{boundary, trimmed_by}
 use Rattle.gfx_model.proofs.Following.{what_follows}
 use Rattle.gfx_grammar.specs.Reads.{AreBytes}
-use Rattle.gfx_grammar.specs.NumberLaws.{all_bytes}
+use Rattle.gfx_grammar.proofs.NumberLaws.{all_bytes}
 use Rattle.gfx_grammar.specs.Splitting.{Blocks, blocks_from, blocks_of, with_item, block_at}
 use Rattle.gfx_grammar.specs.Framing.{IsHeader, Splits, start_fault, with_items}
-use Rattle.gfx_grammar.specs.HeaderLaws.{minor_of-append, option_count-append, start_fault-append, options_fault-append, header_good, blocks_of-header}
-use Rattle.gfx_grammar.specs.BlockLaws.{blocks_are_computed}
-use Rattle.gfx_grammar.specs.AloneLaws.{blocks_from-append}
+use Rattle.gfx_grammar.proofs.HeaderLaws.{minor_of-append, option_count-append, start_fault-append, options_fault-append, header_good, blocks_of-header}
+use Rattle.gfx_grammar.proofs.BlockLaws.{blocks_are_computed}
+use Rattle.gfx_grammar.proofs.AloneLaws.{blocks_from-append}
 use Rattle.gfx_model.proofs.Lists.{all_append}
 use Rattle.gfx_trim_law.specs.Law.{RestLeavesFrames, RestLeavesTrimmed}
 use Rattle.gfx_trim_law.proofs.Bytes.{are_bytes}

@@ -14,8 +14,8 @@ use Rattle.gfx_model.specs.Trimmed.{file_of}
 use Rattle.gfx_model.specs.Section.{section}
 use Rattle.gfx_grammar.specs.Framing.{placed, CanBeWritten, IsUnmarked, made_part, part_of, file_parts, HaveRoom, event_begins, says_begin}
 use Rattle.gfx_grammar.specs.Splitting.{Blocks}
-use Rattle.gfx_grammar.specs.BlockLaws.{blocks_are_computed}
-use Rattle.gfx_grammar.specs.FileLaws.{file_is_read, file_has_room}
+use Rattle.gfx_grammar.proofs.BlockLaws.{blocks_are_computed}
+use Rattle.gfx_grammar.proofs.FileLaws.{file_is_read, file_has_room}
 use Rattle.gfx_laws.specs.Laws.{IsNoMarker, frames_after}
 use Rattle.gfx_model.proofs.Lists.{all_along}
 use Rattle.gfx_laws.proofs.Lists.{all_zip}

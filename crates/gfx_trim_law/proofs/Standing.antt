@@ -10,9 +10,9 @@ use Rattle.gfx_model.specs.Blocks.Content.{skipped, effect}
 use Rattle.gfx_model.specs.History.{view}
 use Rattle.gfx_model.specs.Meaning.{content_onto, events_onto}
 use Rattle.gfx_grammar.specs.Reads.{AreBytes}
-use Rattle.gfx_grammar.specs.NumberLaws.{AreBytes-take, AreBytes-drop}
-use Rattle.gfx_grammar.specs.ContentLaws.{read_is_content}
-use Rattle.gfx_grammar.specs.SaidLaws.{block-says, block-past}
+use Rattle.gfx_grammar.proofs.NumberLaws.{AreBytes-take, AreBytes-drop}
+use Rattle.gfx_grammar.proofs.ContentLaws.{read_is_content}
+use Rattle.gfx_grammar.proofs.SaidLaws.{block-says, block-past}
 use Rattle.gfx_grammar.specs.Framing.{IsBlock, Part, part_of, place_after, HaveRoom, Splits, says_begin, says_end}
 use Rattle.gfx_trim_law.proofs.Clock.{quiet_event, present_event, begun, ended}
 

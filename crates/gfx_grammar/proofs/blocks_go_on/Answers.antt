@@ -1,4 +1,4 @@
-use Rattle.gfx_grammar.specs.BlockLaws.{blocks_go_on}
+use Rattle.gfx_grammar.proofs.BlockLaws.{blocks_go_on}
 use Rattle.gfx_grammar.proofs.blocks_go_on.Goals as goal
 
 pub returns : goal.returns

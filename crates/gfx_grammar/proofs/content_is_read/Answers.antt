@@ -1,4 +1,4 @@
-use Rattle.gfx_grammar.specs.ContentLaws.{content_is_read}
+use Rattle.gfx_grammar.proofs.ContentLaws.{content_is_read}
 use Rattle.gfx_grammar.proofs.content_is_read.Goals as goal
 
 pub returns : goal.returns

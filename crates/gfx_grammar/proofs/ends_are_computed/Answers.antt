@@ -1,4 +1,4 @@
-use Rattle.gfx_grammar.specs.BlockLaws.{ends_are_computed}
+use Rattle.gfx_grammar.proofs.BlockLaws.{ends_are_computed}
 use Rattle.gfx_grammar.proofs.ends_are_computed.Goals as goal
 
 pub returns : goal.returns

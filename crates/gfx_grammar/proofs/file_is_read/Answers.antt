@@ -1,4 +1,4 @@
-use Rattle.gfx_grammar.specs.FileLaws.{file_is_read}
+use Rattle.gfx_grammar.proofs.FileLaws.{file_is_read}
 use Rattle.gfx_grammar.proofs.file_is_read.Goals as goal
 
 pub returns : goal.returns

@@ -1,4 +1,4 @@
-use Rattle.gfx_grammar.specs.FrontLaws.{front-head_fault, front-count_fault, front-cut}
+use Rattle.gfx_grammar.proofs.FrontLaws.{front-head_fault, front-count_fault, front-cut}
 use Rattle.gfx_grammar.proofs.head_decides.Goals as goal
 
 pub returns : goal.returns

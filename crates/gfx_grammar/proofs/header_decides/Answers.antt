@@ -1,4 +1,4 @@
-use Rattle.gfx_grammar.specs.HeaderLaws.{header_fault-start, header_fault-options}
+use Rattle.gfx_grammar.proofs.HeaderLaws.{header_fault-start, header_fault-options}
 use Rattle.gfx_grammar.proofs.header_decides.Goals as goal
 
 pub returns : goal.returns

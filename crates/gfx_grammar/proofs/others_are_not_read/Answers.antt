@@ -1,4 +1,4 @@
-use Rattle.gfx_grammar.specs.NoRowLaws.{others_are_not_read}
+use Rattle.gfx_grammar.proofs.NoRowLaws.{others_are_not_read}
 use Rattle.gfx_grammar.proofs.others_are_not_read.Goals as goal
 
 pub returns : goal.returns

@@ -1,4 +1,4 @@
-use Rattle.gfx_grammar.specs.WrittenLaws.{blocks_of-parts}
+use Rattle.gfx_grammar.proofs.WrittenLaws.{blocks_of-parts}
 use Rattle.gfx_grammar.proofs.parts_are_blocks.Goals as goal
 
 pub returns : goal.returns

@@ -1,4 +1,4 @@
-use Rattle.gfx_grammar.specs.FrontLaws.{front-with_payload}
+use Rattle.gfx_grammar.proofs.FrontLaws.{front-with_payload}
 use Rattle.gfx_grammar.proofs.payload_decides.Goals as goal
 
 pub returns : goal.returns

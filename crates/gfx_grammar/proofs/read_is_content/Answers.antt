@@ -1,4 +1,4 @@
-use Rattle.gfx_grammar.specs.ContentLaws.{read_is_content}
+use Rattle.gfx_grammar.proofs.ContentLaws.{read_is_content}
 use Rattle.gfx_grammar.proofs.read_is_content.Goals as goal
 
 pub returns : goal.returns

@@ -1,4 +1,4 @@
-use Rattle.gfx_grammar.specs.EventLaws.{read_is_spelled}
+use Rattle.gfx_grammar.proofs.EventLaws.{read_is_spelled}
 use Rattle.gfx_grammar.proofs.read_is_spelled.Goals as goal
 
 pub returns : goal.returns

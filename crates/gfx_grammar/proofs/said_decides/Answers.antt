@@ -1,4 +1,4 @@
-use Rattle.gfx_grammar.specs.SaidLaws.{block-side, block-past}
+use Rattle.gfx_grammar.proofs.SaidLaws.{block-side, block-past}
 use Rattle.gfx_grammar.proofs.said_decides.Goals as goal
 
 pub returns : goal.returns

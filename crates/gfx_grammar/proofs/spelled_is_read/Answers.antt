@@ -1,4 +1,4 @@
-use Rattle.gfx_grammar.specs.EventLaws.{spelled_is_read}
+use Rattle.gfx_grammar.proofs.EventLaws.{spelled_is_read}
 use Rattle.gfx_grammar.proofs.spelled_is_read.Goals as goal
 
 pub returns : goal.returns

@@ -1,4 +1,4 @@
-use Rattle.gfx_grammar.specs.SplitLaws.{splits_in_one_way}
+use Rattle.gfx_grammar.proofs.SplitLaws.{splits_in_one_way}
 use Rattle.gfx_grammar.proofs.splits_in_one_way.Goals as goal
 
 pub returns : goal.returns

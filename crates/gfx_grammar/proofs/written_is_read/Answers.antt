@@ -1,4 +1,4 @@
-use Rattle.gfx_grammar.specs.WrittenLaws.{written_is_read}
+use Rattle.gfx_grammar.proofs.WrittenLaws.{written_is_read}
 use Rattle.gfx_grammar.proofs.written_is_read.Goals as goal
 
 pub returns : goal.returns

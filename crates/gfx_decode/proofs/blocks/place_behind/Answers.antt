@@ -1,7 +1,7 @@
 use Rattle.std.proofs.Common.{◌≡◌, ◌-◌, ◌^◌, ◌<◌, true, nat_le, length, take, drop, refl, sym, ap, subst, ◌∙◌, arith}
 use Rattle.std.proofs.lemmas.List.{take_rest}
 use Rattle.gfx_grammar.specs.Framing.{marks, past, side}
-use Rattle.gfx_grammar.specs.FramingLaws.{head-bounds}
+use Rattle.gfx_grammar.proofs.FramingLaws.{head-bounds}
 use Rattle.gfx_decode.specs.Position.{position_of}
 use Rattle.gfx_decode.specs.Reachable.{IsInReach}
 use Rattle.gfx_decode.proofs.Finding.{framed-side, framed-past, past-in_reach, breaks_full, not_full}

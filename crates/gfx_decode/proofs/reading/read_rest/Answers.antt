@@ -1,7 +1,7 @@
 use Rattle.std.proofs.Common.{◌≡◌, ◌+◌, ◌≤◌, ◌++◌, List, ℕ, length, arith, ap, ◌∙◌, append_assoc, length-append}
 use Rattle.std.proofs.KnownBytes.{Consumes-trans}
 use Rattle.std.proofs.lemmas.Result.{err_from_is_err_and}
-use Rattle.gfx_grammar.specs.FramingLaws.{head-bounds}
+use Rattle.gfx_grammar.proofs.FramingLaws.{head-bounds}
 use Rattle.gfx_decode.specs.Position.{position_of}
 use Rattle.gfx_decode.proofs.Steps.{stops_in_piece}
 use Rattle.gfx_decode.proofs.reading.read_rest.Goals as goal

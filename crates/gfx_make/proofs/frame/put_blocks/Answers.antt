@@ -1,5 +1,5 @@
 use Rattle.std.proofs.Common.{◌+◌, ◌∙◌, ap, arith}
-use Rattle.gfx_grammar.specs.NumberLaws.{all_bytes}
+use Rattle.gfx_grammar.proofs.NumberLaws.{all_bytes}
 use Rattle.gfx_make.specs.Made.{submits}
 use Rattle.gfx_make.proofs.Writable.{fill_writable, frame_said}
 use Rattle.gfx_make.proofs.frame.put_blocks.Goals as goal

@@ -1,6 +1,6 @@
 use Rattle.std.proofs.Common.{arith}
 use Rattle.gfx_model.specs.Events.{event_of_call}
-use Rattle.gfx_grammar.specs.EventLaws.{read_is_spelled}
+use Rattle.gfx_grammar.proofs.EventLaws.{read_is_spelled}
 use Rattle.gfx_state.proofs.pool.write_command.Goals as goal
 
 pub write_effect-requires-clause-spelled : goal.write_effect-requires-clause-spelled

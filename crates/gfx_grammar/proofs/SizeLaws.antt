@@ -3,7 +3,7 @@ use Rattle.std.proofs.Common.{◌≡◌, ℕ, zero, suc, ◌+◌, ◌*◌, ◌<�
 use Rattle.std.specs.Int.{Width, w32, w64, byte_len, from_le_bytes}
 use Rattle.std.proofs.lemmas.Bool.{ltb-false}
 use Rattle.gfx_grammar.specs.Reading.{◌>>=◌, Reader, read_number, read_u32, read_u64, read_id, read_both, ◌⊗◌, read_as, read_items, read_list, read_barrier, barrier_of, read_buffer_region, buffer_region_of, read_image_region, image_region_of, read_mixed_region, mixed_region_of, read_submit, submit_of, read_present, present_of}
-use Rattle.gfx_grammar.specs.NumberLaws.{bind_some, guard_some, some_is}
+use Rattle.gfx_grammar.proofs.NumberLaws.{bind_some, guard_some, some_is}
 
 -- the reader takes so many bytes or more
 pub record TakesAtLeast {X : Type 0} (k : ℕ) (r : Reader X) : Type 0 where

@@ -11,10 +11,10 @@ use Rattle.gfx_grammar.specs.Reads.{AreBytes}
 use Rattle.gfx_grammar.specs.Splitting.{blocks_from, blocks_of}
 use Rattle.gfx_grammar.specs.Framing.{IsBlock, Part, place_after, HaveRoom, CanBeWritten, made_part, part_of, file_parts, IsUnmarked, says_begin, Splits}
 use Rattle.gfx_grammar.specs.Laws.{FileIsRead, FileHasRoom}
-use Rattle.gfx_grammar.specs.SaidLaws.{block-says}
-use Rattle.gfx_grammar.specs.SplitLaws.{splits_in_one_way}
-use Rattle.gfx_grammar.specs.RoomLaws.{room-append, inside-room, outside-room}
-use Rattle.gfx_grammar.specs.WrittenLaws.{encoding-block, encoding-says, header-good, header-minor, blocks_of-parts}
+use Rattle.gfx_grammar.proofs.SaidLaws.{block-says}
+use Rattle.gfx_grammar.proofs.SplitLaws.{splits_in_one_way}
+use Rattle.gfx_grammar.proofs.RoomLaws.{room-append, inside-room, outside-room}
+use Rattle.gfx_grammar.proofs.WrittenLaws.{encoding-block, encoding-says, header-good, header-minor, blocks_of-parts}
 
 -- ---- the parts of the file
 

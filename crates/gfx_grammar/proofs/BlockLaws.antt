@@ -8,9 +8,9 @@ use Rattle.gfx_grammar.specs.Rows.{read_content}
 use Rattle.gfx_grammar.specs.Splitting.{Front, Stops, Finds, payload_fault, with_content, with_framing, front, Blocks, after_front, blocks_within, blocks_from, after_header, blocks_of}
 use Rattle.gfx_grammar.specs.Laws.{EndsAreComputed, FrontsAreComputed, BlocksAreComputed, BlocksGoOn}
 use Rattle.gfx_grammar.specs.Reads.{AreBytes}
-use Rattle.gfx_grammar.specs.NumberLaws.{AreBytes-drop, AreBytes-take}
-use Rattle.gfx_grammar.specs.FrontLaws.{front-framing}
-use Rattle.gfx_grammar.specs.ContentLaws.{read_is_content, content_is_read, content_known}
+use Rattle.gfx_grammar.proofs.NumberLaws.{AreBytes-drop, AreBytes-take}
+use Rattle.gfx_grammar.proofs.FrontLaws.{front-framing}
+use Rattle.gfx_grammar.proofs.ContentLaws.{read_is_content, content_is_read, content_known}
 
 payload_bytes : (bytes : List ℕ) → AreBytes bytes → AreBytes (payload_field bytes)
 payload_bytes bytes h = AreBytes-take (size_field bytes) (drop 12 bytes) (AreBytes-drop 12 bytes h)

@@ -15,12 +15,12 @@ use Rattle.gfx_grammar.specs.Rows.{read_content}
 use Rattle.gfx_grammar.specs.Splitting.{Stops, blocks_from, blocks_of, only_end}
 use Rattle.gfx_grammar.specs.Framing.{event_begins, event_ends, start_fault, head_fault, IsHeader, IsBlock, Part, placed, place_after, HaveRoom, with_items, CanBeWritten, Written, written_part}
 use Rattle.gfx_grammar.specs.Laws.{WrittenIsRead}
-use Rattle.gfx_grammar.specs.FramingLaws.{refuse-false}
-use Rattle.gfx_grammar.specs.FrontLaws.{front-empty}
-use Rattle.gfx_grammar.specs.SaidLaws.{block-says_content}
-use Rattle.gfx_grammar.specs.ContentLaws.{is_known, event_known, content_is_read}
-use Rattle.gfx_grammar.specs.HeaderLaws.{blocks_of-header}
-use Rattle.gfx_grammar.specs.AloneLaws.{blocks_from-as, blocks_from-parts}
+use Rattle.gfx_grammar.proofs.FramingLaws.{refuse-false}
+use Rattle.gfx_grammar.proofs.FrontLaws.{front-empty}
+use Rattle.gfx_grammar.proofs.SaidLaws.{block-says_content}
+use Rattle.gfx_grammar.proofs.ContentLaws.{is_known, event_known, content_is_read}
+use Rattle.gfx_grammar.proofs.HeaderLaws.{blocks_of-header}
+use Rattle.gfx_grammar.proofs.AloneLaws.{blocks_from-as, blocks_from-parts}
 
 -- ---- a block that is written
 

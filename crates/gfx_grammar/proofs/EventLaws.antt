@@ -12,9 +12,9 @@ use Rattle.gfx_grammar.specs.Reading.{◌>>=◌, Reader, ◌⊗◌, read_id, rea
 use Rattle.gfx_grammar.specs.Rows.{if_none_left, exactly, with1, with2, with3, with4, with5, with6, with7, with8, with_one_present, present_row, Rows, by_row, calls, metas, markers, rows_of, read_event}
 use Rattle.gfx_grammar.specs.Laws.{ReadIsSpelled, SpelledIsRead}
 use Rattle.gfx_grammar.specs.Reads.{AreBytes, Reads, Fits, text_of}
-use Rattle.gfx_grammar.specs.NumberLaws.{some_is, bind_some}
-use Rattle.gfx_grammar.specs.ReaderLaws.{◌⊠◌, reads_raw, reads_list}
-use Rattle.gfx_grammar.specs.FieldLaws.{reads_id, reads_u32, reads_u64, reads_ids, reads_words, reads_barrier, reads_buffer_region, reads_image_region, reads_mixed_region, reads_submit, reads_present}
+use Rattle.gfx_grammar.proofs.NumberLaws.{some_is, bind_some}
+use Rattle.gfx_grammar.proofs.ReaderLaws.{◌⊠◌, reads_raw, reads_list}
+use Rattle.gfx_grammar.proofs.FieldLaws.{reads_id, reads_u32, reads_u64, reads_ids, reads_words, reads_barrier, reads_buffer_region, reads_image_region, reads_mixed_region, reads_submit, reads_present}
 
 pub chosen : {X : Type 0} (b : Bool) (x y z : X) → cond b x y ≡ z → ((b ≡ true) × (x ≡ z)) ⊎ ((b ≡ false) × (y ≡ z))
 chosen true x y z h = inl (refl, h)

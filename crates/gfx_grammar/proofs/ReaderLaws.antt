@@ -7,7 +7,7 @@ use Rattle.std.proofs.lemmas.List.{take_at, drop_at, take-append-drop, length-ap
 use Rattle.gfx_model.specs.Spelling.{Field, field_bytes, list_of}
 use Rattle.gfx_grammar.specs.Reading.{◌>>=◌, Reader, read_u32, read_u64, read_bytes, read_raw, read_both, ◌⊗◌, read_as, read_items, read_list}
 use Rattle.gfx_grammar.specs.Reads.{AreBytes, Fits, text_of, Takes, Reads, raw_fields}
-use Rattle.gfx_grammar.specs.NumberLaws.{AreBytes-drop, AreBytes-take, all_bytes, bind_some, guard_some, some_is, Takes-then, number_takes, number_again, wide32, wide64}
+use Rattle.gfx_grammar.proofs.NumberLaws.{AreBytes-drop, AreBytes-take, all_bytes, bind_some, guard_some, some_is, Takes-then, number_takes, number_again, wide32, wide64}
 
 -- ---- fields
 

@@ -4,8 +4,8 @@ use Rattle.std.specs.Int.{w32, w64}
 use Rattle.gfx_model.specs.Spelling.{list_of, id_fields, word_fields, barrier_fields, buffer_region_fields, image_region_fields, mixed_region_fields, submit_fields, present_fields}
 use Rattle.gfx_grammar.specs.Reading.{read_u32, read_u64, read_id, read_ids, read_words, barrier_of, read_barrier, buffer_region_of, read_buffer_region, image_region_of, read_image_region, mixed_region_of, read_mixed_region, submit_of, read_submit, present_of, read_present}
 use Rattle.gfx_grammar.specs.Reads.{Reads, u64_fields}
-use Rattle.gfx_grammar.specs.NumberLaws.{number_takes, number_again, wide32, wide64}
-use Rattle.gfx_grammar.specs.ReaderLaws.{◌⊠◌, reads_as, reads_list}
+use Rattle.gfx_grammar.proofs.NumberLaws.{number_takes, number_again, wide32, wide64}
+use Rattle.gfx_grammar.proofs.ReaderLaws.{◌⊠◌, reads_as, reads_list}
 
 pub reads_u32 : Reads read_u32 word_fields
 reads_u32 = record {

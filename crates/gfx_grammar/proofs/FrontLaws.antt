@@ -8,7 +8,7 @@ use Rattle.gfx_model.specs.Blocks.{refuse, Position, size_field, type_field, pay
 use Rattle.gfx_grammar.specs.Rows.{read_content}
 use Rattle.gfx_grammar.specs.Splitting.{Stops, Finds, breaks, block_at, with_payload, with_content, with_framing, front}
 use Rattle.gfx_grammar.specs.Framing.{head_fault, IsHead, marks, side, count_fault, IsWhole}
-use Rattle.gfx_grammar.specs.FramingLaws.{refuse_none, refuse-true, refuse-false, behind_head, size_field-append, type_field-append, marks-cut, marks-append, framing-short, framing-long, framing-head_fault, framing-payload}
+use Rattle.gfx_grammar.proofs.FramingLaws.{refuse_none, refuse-true, refuse-false, behind_head, size_field-append, type_field-append, marks-cut, marks-append, framing-short, framing-long, framing-head_fault, framing-payload}
 
 pub front-empty : (m : ℕ) (at : Position) (bytes : List ℕ) → length bytes ≡ 0 → front m at bytes ≡ Stops clean
 unfolding front

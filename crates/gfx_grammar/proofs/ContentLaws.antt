@@ -12,8 +12,8 @@ use Rattle.gfx_grammar.specs.Reading.{◌>>=◌, read_u32}
 use Rattle.gfx_grammar.specs.Rows.{read_event, read_thread, read_payload, read_content}
 use Rattle.gfx_grammar.specs.Laws.{ReadIsContent, ContentIsRead}
 use Rattle.gfx_grammar.specs.Reads.{AreBytes, Takes}
-use Rattle.gfx_grammar.specs.NumberLaws.{bind_some, some_is, Takes-then, number_takes, number_again, wide32, wide64}
-use Rattle.gfx_grammar.specs.EventLaws.{chosen, read_is_spelled, spelled_is_read}
+use Rattle.gfx_grammar.proofs.NumberLaws.{bind_some, some_is, Takes-then, number_takes, number_again, wide32, wide64}
+use Rattle.gfx_grammar.proofs.EventLaws.{chosen, read_is_spelled, spelled_is_read}
 
 -- the thread of a payload
 abbrev thread_text : ℕ → ℕ → List ℕ

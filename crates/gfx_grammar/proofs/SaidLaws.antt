@@ -7,10 +7,10 @@ use Rattle.gfx_model.specs.Events.Event.{BeginSection, EndSection}
 use Rattle.gfx_model.specs.Spelling.{type_of, id_of, payload, spelling, fields_of}
 use Rattle.gfx_model.specs.Blocks.{u32_at, Position, size_field, type_field, payload_field, is_marker, side_count, next_position, Content, skipped, effect, IsContent}
 use Rattle.gfx_grammar.specs.Reads.{AreBytes}
-use Rattle.gfx_grammar.specs.NumberLaws.{AreBytes-drop, AreBytes-take}
+use Rattle.gfx_grammar.proofs.NumberLaws.{AreBytes-drop, AreBytes-take}
 use Rattle.gfx_grammar.specs.Framing.{head_fault, IsHead, marks, side, past, says_begin, says_end, event_begins, event_ends, IsBlock}
-use Rattle.gfx_grammar.specs.FramingLaws.{size_field-append, type_field-append, head_fault-append, is_marker-marks}
-use Rattle.gfx_grammar.specs.ContentLaws.{read_is_content, payload_number}
+use Rattle.gfx_grammar.proofs.FramingLaws.{size_field-append, type_field-append, head_fault-append, is_marker-marks}
+use Rattle.gfx_grammar.proofs.ContentLaws.{read_is_content, payload_number}
 
 -- the first twelve bytes of a block are a head in order
 pub block-head : (m : ℕ) (bytes : List ℕ) (c : Content) → IsBlock m bytes c → IsHead (type_field bytes) (size_field bytes) (take 12 bytes)

@@ -4,9 +4,9 @@ use Rattle.gfx_model.specs.Blocks.{Position, size_field, next_position, Whole, E
 use Rattle.gfx_grammar.specs.Splitting.{Front, Stops, Finds, front, Blocks, with_item, after_front, blocks_from}
 use Rattle.gfx_grammar.specs.Framing.{Splits}
 use Rattle.gfx_grammar.specs.Laws.{SplitsInOneWay}
-use Rattle.gfx_grammar.specs.BlockLaws.{blocks_go_on}
-use Rattle.gfx_grammar.specs.FrontLaws.{whole-front}
-use Rattle.gfx_grammar.specs.AloneLaws.{front-found, blocks_from-as, blocks_from-append}
+use Rattle.gfx_grammar.proofs.BlockLaws.{blocks_go_on}
+use Rattle.gfx_grammar.proofs.FrontLaws.{whole-front}
+use Rattle.gfx_grammar.proofs.AloneLaws.{front-found, blocks_from-as, blocks_from-append}
 
 -- what splits so is what is computed
 pub splits-only : (m : ℕ) (at : Position) (bytes : List ℕ) (ws : List Whole) (end : End) → Splits m at bytes ws end → blocks_from m at bytes ≡ record { items = ws; end = end }

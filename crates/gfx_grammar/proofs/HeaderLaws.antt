@@ -9,7 +9,7 @@ use Rattle.gfx_types.specs.declared.names.Fault.TheVariants.{BadMagic, BadVersio
 use Rattle.gfx_model.specs.Blocks.{u32_at, refuse, options_fault, option_count, header_length, minor_of, header_fault, bad, first_position, Position}
 use Rattle.gfx_grammar.specs.Splitting.{only_end, after_header, blocks_from, blocks_of}
 use Rattle.gfx_grammar.specs.Framing.{start_fault, IsHeader}
-use Rattle.gfx_grammar.specs.FramingLaws.{refuse_none, refuse-true, refuse-false, u32_at-append}
+use Rattle.gfx_grammar.proofs.FramingLaws.{refuse_none, refuse-true, refuse-false, u32_at-append}
 
 -- ---- the steps by what they read
 

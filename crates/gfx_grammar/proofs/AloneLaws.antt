@@ -7,9 +7,9 @@ use Rattle.gfx_model.specs.Blocks.{Position, size_field, type_field, payload_fie
 use Rattle.gfx_grammar.specs.Rows.{read_content}
 use Rattle.gfx_grammar.specs.Splitting.{Front, Finds, block_at, front, with_item, after_front, blocks_from}
 use Rattle.gfx_grammar.specs.Framing.{IsWhole, IsBlock, IsFound, Part, placed, place_after, HaveRoom, with_items}
-use Rattle.gfx_grammar.specs.FramingLaws.{size_field-append, type_field-append, head_fault-append, payload_field-append, side_count-append, next_position-append}
-use Rattle.gfx_grammar.specs.FrontLaws.{whole-front, front-whole}
-use Rattle.gfx_grammar.specs.BlockLaws.{blocks_go_on}
+use Rattle.gfx_grammar.proofs.FramingLaws.{size_field-append, type_field-append, head_fault-append, payload_field-append, side_count-append, next_position-append}
+use Rattle.gfx_grammar.proofs.FrontLaws.{whole-front, front-whole}
+use Rattle.gfx_grammar.proofs.BlockLaws.{blocks_go_on}
 
 -- ---- a block stands at the front of whatever it begins
 
