@@ -18,7 +18,7 @@ use Rattle.gfx_model.specs.Table.{value, res, barrier_value, buffer_region_in, i
 use Rattle.gfx_model.specs.Effects.{changes_of_command, rows_copied, inside_of, inside_both, barrier_change, buffer_copy, image_copy, upload, download, texel_at, image_step}
 use Rattle.gfx_model.specs.Covers.{IsInPlace}
 use Rattle.gfx_model.proofs.Covered.{unless_none}
-use Rattle.gfx_laws.specs.Lawful.{LawfulObjects, command_checks, Passes, CommandPasses, id_in}
+use Rattle.gfx_laws.specs.Lawful.{LawfulObjects, Passes, CommandPasses, id_in}
 use Rattle.gfx_laws.proofs.Ready.{ReadyToChange}
 use Rattle.gfx_model.proofs.Lists.{all_along}
 use Rattle.gfx_laws.proofs.Lists.{all_before, all_behind, all_from_flat, all_into_flat, all_into_map, all_range}
@@ -92,7 +92,7 @@ upload_ready v source target s t a b r e =
     at_index v _ s a _ (r.offset + k * (row_texels r.row r.width * texel v target) + j) inner (omega arith))
 
 pub command_ready : (v : View) → LawfulObjects v → (c : Event) → CommandPasses v c → AllByRecursion (ReadyToChange v) (changes_of_command v c)
-unfolding changes_of_command command_checks broken resources_of
+unfolding changes_of_command broken resources_of
 command_ready v h (CmdPipelineBarrier cb barriers) a =
     barriers_ready v cb barriers (all_before (Passes v) (flat_map (λ b. res kind.Image cb b.image) barriers) (map barrier_value barriers) a.1.1) (all_behind (Passes v) (flat_map (λ b. res kind.Image cb b.image) barriers) (map barrier_value barriers) a.1.1)
 command_ready v h (CmdFillBuffer cb buffer offset size word) a = all_inside (ReadyToChange v) (window v buffer) _ (λ w e. ((is_window v h buffer w e).used, tt))

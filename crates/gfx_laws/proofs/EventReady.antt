@@ -18,7 +18,7 @@ use Rattle.gfx_model.specs.Table.{checks_of, place_of, row_of, new_each, live_on
 use Rattle.gfx_model.specs.Effects.{steps_of, effect_of, image_bytes_put}
 use Rattle.gfx_model.specs.After.{after}
 use Rattle.gfx_model.proofs.Covered.{unless_none}
-use Rattle.gfx_laws.specs.Lawful.{base, IsLawful, LawfulObjects, LawfulBuffers, LawfulIds, IsKind, has_signal, command_checks, Passes}
+use Rattle.gfx_laws.specs.Lawful.{base, IsLawful, LawfulObjects, LawfulBuffers, LawfulIds, IsKind, has_signal, Passes}
 use Rattle.gfx_laws.proofs.Ready.{AllReady, ReadyToEnd}
 use Rattle.gfx_model.proofs.Lists.{all_append, all_along, all_map}
 use Rattle.gfx_laws.proofs.Lists.{all_before, all_behind}
@@ -60,7 +60,7 @@ last_pass v xs c d a = let rest : AllByRecursion (Passes v) (c ∷ d ∷ []) = a
 
 -- the steps of a row whose checks pass
 row_ready : (v : View) → LawfulObjects (base v) → LawfulIds v.live v.ids → LawfulBuffers (base v) v.buffer → (e : Event) → AllByRecursion (Passes v) (row_of e) → AllReady v (effect_of v e)
-unfolding after effect_of row_of broken command_checks
+unfolding after effect_of row_of broken
 row_ready v h i k (CreateInstance instance api) a = (made_ready v instance 0 (an_instance api) a.0 refl tt refl refl, tt)
 row_ready v h i k (DestroyInstance instance) a = (record { children = no_children v i instance (eqb-true _ 0 (unless_none _ _ a.1.0)); surface = no_swapchain (base v) h 1 instance (unless_none _ _ a.0) refl; is_own = kind_own 1 (v.live instance) refl (unless_none _ _ a.0) }, tt)
 row_ready v h i k (CreateHeadlessSurfaceEXT instance surface) a = (made_ready v surface instance a_surface a.1.0 (unless_none _ _ a.0) tt refl refl, tt)

@@ -125,7 +125,7 @@ image_adds image bytes None = tt
 image_adds image bytes (Some o) = put_adds image bytes o.detail
 
 row_room : (v : View) (e : Event) → AllByRecursion (Passes v) (row_of e) → AllRoom v (effect_of v e)
-unfolding effect_of row_of command_checks broken
+unfolding effect_of row_of broken
 row_room v (CreateInstance instance api) a = ((one_more v a.1.0, tt), tt)
 row_room v (CreateHeadlessSurfaceEXT instance surface) a = ((one_more v a.1.1.0, tt), tt)
 row_room v (CreateDevice instance device) a = ((one_more v a.1.1.0, tt), tt)

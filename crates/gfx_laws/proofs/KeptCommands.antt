@@ -20,7 +20,7 @@ use Rattle.gfx_laws.proofs.LastingChecks.{SameAt, command_along, command_usable}
 use Rattle.gfx_laws.proofs.ValidHistories.{lawful_history}
 
 pub row_of-command : (c : Event) → is_command c ≡ true → row_of c ≡ recorded (cb_of c) c (command_checks c)
-unfolding row_of command_checks
+unfolding row_of
 row_of-command (CmdPipelineBarrier cb barriers) e = refl
 row_of-command (CmdFillBuffer cb buffer offset size word) e = refl
 row_of-command (CmdUpdateBuffer cb buffer offset bytes) e = refl
@@ -32,7 +32,7 @@ row_of-command (CmdClearColorImage cb image layout c0 c1 c2 c3) e = refl
 row_of-command _ e = absurd (cc)
 
 -- what has a command buffer is a command
-command_of_buffer : (c : Event) → (cb_of c ≡ 0 → ⊥) → is_command c ≡ true
+pub command_of_buffer : (c : Event) → (cb_of c ≡ 0 → ⊥) → is_command c ≡ true
 command_of_buffer (CmdPipelineBarrier cb barriers) e = refl
 command_of_buffer (CmdFillBuffer cb buffer offset size word) e = refl
 command_of_buffer (CmdUpdateBuffer cb buffer offset bytes) e = refl

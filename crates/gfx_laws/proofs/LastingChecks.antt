@@ -77,7 +77,7 @@ span_named v w x offset size true s = tt
 span_named v w x offset size false s = (s, tt)
 
 pub command_named : (v w : View) (c : Event) → device_of w (cb_of c) ≡ device_of v (cb_of c) → AllByRecursion (SameAt v w) (resources_of c) → AllByRecursion (Named v w) (command_checks c)
-unfolding resources_of command_checks
+unfolding resources_of
 command_named v w (CmdPipelineBarrier cb barriers) d a =
     (tt, (tt, all_append (Named v w) _ _ (barriers_named v w cb d barriers a) (all_map (Named v w) barrier_value (λ b. tt) barriers)))
 command_named v w (CmdFillBuffer cb buffer offset size word) d a =
@@ -241,7 +241,7 @@ barriers_usable v cb [] a = tt
 barriers_usable v cb (b ∷ bs) a = (unless_none _ _ a.1.1.0, barriers_usable v cb bs a.1.1.1)
 
 pub command_usable : (v : View) (c : Event) → CommandPasses v c → AllByRecursion (λ x. is_usable v x ≡ true) (resources_of c)
-unfolding resources_of command_checks broken
+unfolding resources_of broken
 command_usable v (CmdPipelineBarrier cb barriers) a = barriers_usable v cb barriers (all_before (Passes v) _ (map barrier_value barriers) a.1.1)
 command_usable v (CmdFillBuffer cb buffer offset size word) a = (unless_none _ _ a.1.1.0, tt)
 command_usable v (CmdUpdateBuffer cb buffer offset bytes) a = (unless_none _ _ a.1.1.0, tt)

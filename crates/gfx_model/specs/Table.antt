@@ -158,7 +158,49 @@ place_of (BeginSection _) = []
 place_of (EndSection _) = []
 place_of e = if stands_in_section (id_of e) then [] else outside ∷ []
 
--- the checks of an event's row
+-- the command buffer of a command
+abbrev pub cb_of : Event → ℕ
+cb_of (CmdPipelineBarrier cb barriers) = cb
+cb_of (CmdFillBuffer cb buffer offset size word) = cb
+cb_of (CmdUpdateBuffer cb buffer offset bytes) = cb
+cb_of (CmdCopyBuffer cb source target regions) = cb
+cb_of (CmdCopyImage cb source source_layout target target_layout regions) = cb
+cb_of (CmdCopyBufferToImage cb source target layout regions) = cb
+cb_of (CmdCopyImageToBuffer cb source layout target regions) = cb
+cb_of (CmdClearColorImage cb image layout c0 c1 c2 c3) = cb
+cb_of _ = 0
+
+-- the checks of a command's own, between those that its buffer is recording and that there is room
+abbrev pub command_checks : Event → List Check
+command_checks (CmdPipelineBarrier cb barriers) =
+    between 0 max_barriers barriers ++ flat_map (λ b. res kind.Image cb b.image) barriers ++ map barrier_value barriers
+command_checks (CmdFillBuffer cb buffer offset size word) =
+    res kind.Buffer cb buffer
+    ++ dst buffer ∷ value (divides 4 offset && (size == whole || nat_le 4 size && divides 4 size)) ∷ span buffer offset size
+command_checks (CmdUpdateBuffer cb buffer offset bytes) =
+    res kind.Buffer cb buffer
+    ++ dst buffer
+    ∷ value (divides 4 offset && divides 4 (length bytes) && nat_le 4 (length bytes) && nat_le (length bytes) max_update)
+    ∷ ends_in buffer (offset + length bytes) ∷ []
+command_checks (CmdCopyBuffer cb source target regions) =
+    copied cb kind.Buffer source kind.Buffer target ++ between 1 max_regions regions
+    ++ map (λ r. value (is_positive r.size)) regions ++ flat_map (buffer_region_in source target) regions
+command_checks (CmdCopyImage cb source source_layout target target_layout regions) =
+    copied cb kind.Image source kind.Image target
+    ++ value (is_among source_layout (6 ∷ 1 ∷ []) && is_among target_layout (7 ∷ 1 ∷ [])) ∷ same_texel source target
+    ∷ between 1 max_regions regions
+    ++ map (λ r. value (is_positive r.width && is_positive r.height)) regions ++ flat_map (image_region_in source target) regions
+command_checks (CmdCopyBufferToImage cb source target layout regions) =
+    copied cb kind.Buffer source kind.Image target
+    ++ value (is_among layout (7 ∷ 1 ∷ [])) ∷ mixed_regions source target regions
+command_checks (CmdCopyImageToBuffer cb source layout target regions) =
+    copied cb kind.Image source kind.Buffer target
+    ++ value (is_among layout (6 ∷ 1 ∷ [])) ∷ mixed_regions target source regions
+command_checks (CmdClearColorImage cb image layout c0 c1 c2 c3) =
+    res kind.Image cb image ++ dst image ∷ value (is_among layout (7 ∷ 1 ∷ [])) ∷ uint_format image ∷ []
+command_checks _ = []
+
+-- the checks of an event's row; a command's own stand between those of its buffer
 unfoldable pub row_of : Event → List Check
 row_of (CreateInstance instance api) = new [] instance ∷ room 1 ∷ []
 row_of (DestroyInstance instance) = live kind.Instance instance ∷ childless instance ∷ []
@@ -200,33 +242,6 @@ row_of (BeginCommandBuffer cb flags) =
     live kind.CommandBuffer cb ∷ value (is_among flags (0 ∷ 1 ∷ 4 ∷ 5 ∷ [])) ∷ not_recording cb ∷ may_begin cb ∷ []
 row_of (EndCommandBuffer cb) = live kind.CommandBuffer cb ∷ recording cb ∷ []
 row_of (ResetCommandBuffer cb) = live kind.CommandBuffer cb ∷ may_reset cb ∷ []
-row_of (CmdPipelineBarrier cb barriers) = recorded cb (CmdPipelineBarrier cb barriers)
-    (between 0 max_barriers barriers ++ flat_map (λ b. res kind.Image cb b.image) barriers ++ map barrier_value barriers)
-row_of (CmdFillBuffer cb buffer offset size word) = recorded cb (CmdFillBuffer cb buffer offset size word)
-    (res kind.Buffer cb buffer
-    ++ dst buffer ∷ value (divides 4 offset && (size == whole || nat_le 4 size && divides 4 size)) ∷ span buffer offset size)
-row_of (CmdUpdateBuffer cb buffer offset bytes) = recorded cb (CmdUpdateBuffer cb buffer offset bytes)
-    (res kind.Buffer cb buffer
-    ++ dst buffer
-    ∷ value (divides 4 offset && divides 4 (length bytes) && nat_le 4 (length bytes) && nat_le (length bytes) max_update)
-    ∷ ends_in buffer (offset + length bytes) ∷ [])
-row_of (CmdCopyBuffer cb source target regions) = recorded cb (CmdCopyBuffer cb source target regions)
-    (copied cb kind.Buffer source kind.Buffer target ++ between 1 max_regions regions
-    ++ map (λ r. value (is_positive r.size)) regions ++ flat_map (buffer_region_in source target) regions)
-row_of (CmdCopyImage cb source source_layout target target_layout regions) =
-    recorded cb (CmdCopyImage cb source source_layout target target_layout regions)
-    (copied cb kind.Image source kind.Image target
-    ++ value (is_among source_layout (6 ∷ 1 ∷ []) && is_among target_layout (7 ∷ 1 ∷ [])) ∷ same_texel source target
-    ∷ between 1 max_regions regions
-    ++ map (λ r. value (is_positive r.width && is_positive r.height)) regions ++ flat_map (image_region_in source target) regions)
-row_of (CmdCopyBufferToImage cb source target layout regions) = recorded cb (CmdCopyBufferToImage cb source target layout regions)
-    (copied cb kind.Buffer source kind.Image target
-    ++ value (is_among layout (7 ∷ 1 ∷ [])) ∷ mixed_regions source target regions)
-row_of (CmdCopyImageToBuffer cb source layout target regions) = recorded cb (CmdCopyImageToBuffer cb source layout target regions)
-    (copied cb kind.Image source kind.Buffer target
-    ++ value (is_among layout (6 ∷ 1 ∷ [])) ∷ mixed_regions target source regions)
-row_of (CmdClearColorImage cb image layout c0 c1 c2 c3) = recorded cb (CmdClearColorImage cb image layout c0 c1 c2 c3)
-    (res kind.Image cb image ++ dst image ∷ value (is_among layout (7 ∷ 1 ∷ [])) ∷ uint_format image ∷ [])
 row_of (CreateFence device fence flags) = made kind.Device device fence ++ value (nat_le flags 1) ∷ room 1 ∷ []
 row_of (DestroyFence device fence) = of_device kind.Fence device fence
 row_of (ResetFences device fences) =
@@ -275,6 +290,7 @@ row_of (SetSwapchainState swapchain acquired) =
 row_of (SetSemaphoreState semaphore signalled) = live kind.Semaphore semaphore ∷ value (nat_le signalled 1) ∷ []
 row_of (BeginSection frame) = at_start ∷ value (is_positive frame && nat_le frame max_frame) ∷ []
 row_of (EndSection frame) = inside ∷ ends_frame frame ∷ []
+row_of command = recorded (cb_of command) command (command_checks command)
 
 -- all checks of an event
 abbrev pub checks_of : Event → List Check

@@ -17,7 +17,7 @@ use Rattle.gfx_model.specs.Checks.{broken}
 use Rattle.gfx_model.specs.Table.{value, is_positive, buffer_region_in, image_region_in, mixed_region_value, mixed_region_in}
 use Rattle.gfx_model.proofs.Covered.{unless_none}
 use Rattle.gfx_model.proofs.Lists.{all_along}
-use Rattle.gfx_laws.specs.Lawful.{command_checks, Passes, CommandPasses}
+use Rattle.gfx_laws.specs.Lawful.{Passes, CommandPasses}
 use Rattle.gfx_laws.proofs.Lists.{all_behind, all_from_flat}
 use Rattle.gfx_ops.specs.declared.shape.Shape.{Shape}
 use Rattle.gfx_ops.specs.Operations.{shape_of}
@@ -101,37 +101,33 @@ mixed_regions v buffer image a b c rs passes =
 
 pub copy_buffer_regions : (v : View) (cb source target : ℕ) (rs : List BufferRegion) → size_of v source ≤ 2 ^ 28 → size_of v target ≤ 2 ^ 28 →
     CommandPasses v (CmdCopyBuffer cb source target rs) → AllByRecursion IsNearRegion rs
-unfolding command_checks
 copy_buffer_regions v cb source target rs a b p = near_regions v source target a b rs
     (all_behind (Passes v) (map (λ r. value (is_positive r.size)) rs) (flat_map (buffer_region_in source target) rs) p.1.1.1.1.1.1.1.1.1.1)
 
 pub copy_image_regions : (v : View) (cb source source_layout target target_layout : ℕ) (rs : List ImageRegion) →
     width_of v source ≤ 4096 → height_of v source ≤ 4096 → width_of v target ≤ 4096 → height_of v target ≤ 4096 →
     CommandPasses v (CmdCopyImage cb source source_layout target target_layout rs) → AllByRecursion IsImageRegion rs
-unfolding command_checks
 copy_image_regions v cb source source_layout target target_layout rs a b c d p = image_regions v source target a b c d rs
     (all_behind (Passes v) (map (λ r. value (is_positive r.width && is_positive r.height)) rs) (flat_map (image_region_in source target) rs) p.1.1.1.1.1.1.1.1.1.1.1.1)
 
 pub upload_regions : (v : View) (cb source target layout : ℕ) (rs : List MixedRegion) → size_of v source ≤ 2 ^ 28 → width_of v target ≤ 4096 → height_of v target ≤ 4096 →
     CommandPasses v (CmdCopyBufferToImage cb source target layout rs) → AllByRecursion IsMixedRegion rs
-unfolding command_checks
 upload_regions v cb source target layout rs a b c p = mixed_regions v source target a b c rs
     (all_behind (Passes v) (flat_map (mixed_region_value target) rs) (flat_map (mixed_region_in source target) rs) p.1.1.1.1.1.1.1.1.1.1.1)
 
 pub download_regions : (v : View) (cb source layout target : ℕ) (rs : List MixedRegion) → size_of v target ≤ 2 ^ 28 → width_of v source ≤ 4096 → height_of v source ≤ 4096 →
     CommandPasses v (CmdCopyImageToBuffer cb source layout target rs) → AllByRecursion IsMixedRegion rs
-unfolding command_checks
 download_regions v cb source layout target rs a b c p = mixed_regions v target source a b c rs
     (all_behind (Passes v) (flat_map (mixed_region_value source) rs) (flat_map (mixed_region_in target source) rs) p.1.1.1.1.1.1.1.1.1.1.1)
 
 -- a fill begins inside its buffer
 pub fill_begins : (v : View) (cb buffer offset size word : ℕ) → CommandPasses v (CmdFillBuffer cb buffer offset size word) → offset < size_of v buffer
-unfolding command_checks broken
+unfolding broken
 fill_begins v cb buffer offset size word p = ltb-true offset (size_of v buffer) (unless_none _ _ p.1.1.1.1.1.0)
 
 -- an update ends inside its buffer
 pub update_begins : (v : View) (cb buffer offset : ℕ) (bytes : List ℕ) → CommandPasses v (CmdUpdateBuffer cb buffer offset bytes) → offset ≤ size_of v buffer
-unfolding command_checks broken
+unfolding broken
 update_begins v cb buffer offset bytes p = let ends = leb-true _ (size_of v buffer) (unless_none _ _ p.1.1.1.1.1.0) in omega (arith, ends)
 
 -- ---- shapes

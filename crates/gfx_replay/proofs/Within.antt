@@ -185,7 +185,7 @@ module _ (v : View) (given : List ℕ) where
       )
 
   pub command_within : LawfulObjects v → (c : Event) → CommandPasses v c → AreAllWithin (place_size v) given (ops_of_command v c)
-  unfolding ops_of_command command_checks broken
+  unfolding ops_of_command broken
   command_within h (CmdPipelineBarrier cb barriers) a = all_map P barrier_op (λ b. tt) barriers
   command_within h (CmdFillBuffer cb buffer offset size word) a =
       all_in P (window v buffer) _ (λ w e. let f = fits v h buffer w e in (range_in (place_size v) w.place w.offset (size_of v buffer) offset _ f.inside (fill_within v buffer offset size a.1.1.1.1.1), tt))

@@ -75,7 +75,7 @@ within : (n limit : ℕ) (f : Fault) → unless (nat_le n limit) f ≡ None → 
 within n limit f e = leb-true n limit (unless_none (nat_le n limit) f e)
 
 pub command_small : (m : ℕ) (v : View) (c : Event) (at : ℕ) → cb_of c ≡ at → (at == 0) ≡ false → CommandPasses v c → IsSmall m c
-unfolding fields_of broken command_checks
+unfolding fields_of broken
 command_small m v (CmdPipelineBarrier cb barriers) at e z a =
     let n = within (length barriers) 256 LimitReached a.1.0 in
     let s = list_size barrier_fields 16 (λ b. refl) barriers in

@@ -75,7 +75,7 @@ after_command v c is = after_one v c (records (cb_of c) c) (effect_of-command v 
 -- ---- its list
 
 few : (v : View) (c : Event) → is_command c ≡ true → AllByRecursion (Passes v) (command_checks c) → items_in c < 2 ^ 32
-unfolding command_checks broken
+unfolding broken
 few v (CmdPipelineBarrier cb barriers) e a = let n = leb-true (length barriers) 256 (unless_none _ _ a.1.0) in omega (arith, n)
 few v (CmdFillBuffer cb buffer offset size word) e a = omega arith
 few v (CmdUpdateBuffer cb buffer offset bytes) e a =
