@@ -1,8 +1,8 @@
 -- What is asked of a capture. Each question is asked of all its steps, the newest first.
-use Rattle.std.specs.Prelude.{ℕ, ◌+◌, ◌*◌, ◌/◌, ◌%◌, ◌==◌, Bool, true, false, ◌&&◌, ◌||◌, if◌then◌else◌, List, [], ◌∷◌, ◌++◌, length, filter, nat_le, not, Option, Some, None, is_some, option_map, unwrap_or}
+use Rattle.std.specs.Prelude.{ℕ, ◌+◌, ◌/◌, ◌%◌, ◌==◌, Bool, true, false, ◌&&◌, ◌||◌, if◌then◌else◌, List, [], ◌∷◌, ◌++◌, length, filter, nat_le, not, Option, Some, None, is_some}
 use Rattle.std.specs.List.{list_any}
 use Rattle.std.specs.Option.{option_map_or}
-use Rattle.gfx_types.specs.Names.{format_of, texel_of}
+pub use Rattle.gfx_types.specs.Names.{texel_size, image_size}
 use Rattle.gfx_types.specs.declared.map_range.MapRange.{MapRange}
 use Rattle.gfx_model.specs.Events.{Event}
 use Rattle.gfx_model.specs.Steps.{Step, Object, Detail, Change, resources_of}
@@ -13,14 +13,6 @@ use Rattle.gfx_model.specs.Steps.Step.{begins_section, ends_section, creates, en
 -- bit b of a number is the bit whose value is b
 abbrev pub has_bit : ℕ → ℕ → Bool
 has_bit n b = (n / b) % 2 == 1
-
--- the bytes of a texel of this format
-abbrev pub texel_size : ℕ → ℕ
-texel_size format = unwrap_or (option_map texel_of (format_of format)) 0
-
--- how many bytes an image has: its texels, tightly packed
-abbrev pub image_size : ℕ → ℕ → ℕ → ℕ
-image_size format width height = width * height * texel_size format
 
 -- ---- objects
 

@@ -1,5 +1,5 @@
 -- The numbers and names that stand in files and in printed lines.
-use Rattle.std.specs.Prelude.{ℕ, ◌==◌, if◌then◌else◌, List, codes, Option, Some, None}
+use Rattle.std.specs.Prelude.{ℕ, ◌*◌, ◌==◌, if◌then◌else◌, List, codes, Option, Some, None, option_map, unwrap_or}
 use Rattle.gfx_types.specs.declared.names.Format.{Format}
 use Rattle.gfx_types.specs.declared.names.Format.TheVariants.{R8Uint, R8G8B8A8Unorm, R8G8B8A8Uint, B8G8R8A8Unorm, R32Uint}
 use Rattle.gfx_types.specs.declared.names.Fault.{Fault}
@@ -19,6 +19,14 @@ format_of n =
 abbrev pub texel_of : Format → ℕ
 texel_of R8Uint = 1
 texel_of _ = 4
+
+-- the size of a texel of the format of this number, in bytes
+abbrev pub texel_size : ℕ → ℕ
+texel_size format = unwrap_or (option_map texel_of (format_of format)) 0
+
+-- how many bytes an image has: its texels, tightly packed
+abbrev pub image_size : ℕ → ℕ → ℕ → ℕ
+image_size format width height = width * height * texel_size format
 
 -- the printed name of a format
 abbrev pub format_name : Format → List ℕ

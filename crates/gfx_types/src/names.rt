@@ -1,7 +1,10 @@
 //! Kinds of objects, formats of images, and faults.
 
-ghost use Rattle.std.specs.Prelude.{◌≡◌};
+ghost use Rattle.std.specs.Prelude.{◌≡◌, ◌≤◌};
+ghost use Rattle.gfx_types.specs.Names as names;
 ghost use Rattle.gfx_types.specs.Names.{format_of, texel_of, format_name, fault_number, fault_name};
+
+use crate::limits::{MAX_EXTENT, MAX_IMAGE_SIZE};
 
 /// The kind of an object.
 #[derive(Clone, Copy, Debug, PartialEq, Eq)]
@@ -67,6 +70,23 @@ impl Format {
             Format::R32Uint => "R32_UINT",
         }
     }
+}
+
+/// The size of a texel of the format of a Vulkan number, in bytes, 0 where it is none of the five.
+pub fn texel_size(format: u32) -> u64
+    ensures { result ≡ names.texel_size format }
+{
+    Format::of(format).map_or(0, Format::texel)
+}
+
+/// The bytes of an image of this format and extent, tightly packed.
+pub fn image_size(format: u32, width: u32, height: u32) -> u64
+    requires width { width ≤ MAX_EXTENT }
+    requires height { height ≤ MAX_EXTENT }
+    ensures size { result ≡ names.image_size format width height }
+    ensures small { result ≤ MAX_IMAGE_SIZE }
+{
+    u64::from(width) * u64::from(height) * texel_size(format)
 }
 
 /// Why a file or a call is refused: nine faults of framing, then nineteen of rules, by their numbers.
