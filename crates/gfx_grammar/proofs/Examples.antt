@@ -4,14 +4,14 @@ use Rattle.std.specs.Int.{to_le_bytes, w32, w64}
 use Rattle.gfx_types.specs.declared.names.Fault.TheVariants.{BadVersion, BadOption, Compressed, Truncated, BadParams, UnknownBlock, TooManyBlocks}
 use Rattle.gfx_model.specs.Events.Event.{CreateInstance, AllocateCommandBuffers, QueueSubmit, QueuePresentKHR, FillMemory, SetSemaphoreState, BeginSection, EndSection}
 use Rattle.gfx_model.specs.Spelling.{fields_of, spelling, id_of, type_of, payload, encoding, block_bytes, header}
-use Rattle.gfx_model.specs.Blocks.{skipped, effect, clean, bad, header_fault, framing_fault, Position}
+use Rattle.gfx_model.specs.Blocks.{skipped, effect, clean, bad, header_fault, start_fault, head_fault, framing_fault, Position}
 use Rattle.gfx_grammar.specs.Reading.{read_both, read_number, read_raw, read_as, read_items, read_list}
 use Rattle.gfx_grammar.specs.Rows.{exactly, present_row, by_row, read_event, read_call, read_meta, read_payload, read_content}
 use Rattle.gfx_grammar.specs.Splitting.{breaks, front, blocks_within, blocks_from, blocks_of}
 
 -- opens all definitions, for what is computed here
 opened : ℕ
-unfolding fields_of spelling id_of type_of payload encoding header_fault framing_fault read_number read_raw read_both read_as read_items read_list exactly present_row by_row read_event read_payload read_content front blocks_within blocks_from blocks_of
+unfolding fields_of spelling id_of type_of payload encoding start_fault header_fault head_fault framing_fault read_number read_raw read_both read_as read_items read_list exactly present_row by_row read_event read_payload read_content front blocks_within blocks_from blocks_of
 opened = 0
 
 ex_instance : read_call 1 1 (7 ∷ 0 ∷ 0 ∷ 0 ∷ 0 ∷ 0 ∷ 0 ∷ 0 ∷ 0 ∷ 0 ∷ 64 ∷ 0 ∷ []) ≡ Some (CreateInstance 7 4194304)

@@ -6,7 +6,7 @@ use Rattle.std.proofs.lemmas.Bool.Decides.{nat_tests}
 use Rattle.std.proofs.lemmas.List.{drop_at, drop-append-le, take-append-le}
 use Rattle.gfx_types.specs.declared.names.Fault.{Fault}
 use Rattle.gfx_types.specs.declared.names.Fault.TheVariants.{Compressed, Truncated, BlockTooLarge, UnknownBlock, TooManyBlocks}
-use Rattle.gfx_model.specs.Blocks.{u32_at, u64_at, refuse, Position, size_field, type_field, payload_field, is_marker, side_count, framing_fault, next_position}
+use Rattle.gfx_model.specs.Blocks.{u32_at, u64_at, refuse, or_else, Position, size_field, type_field, payload_field, is_marker, side_count, framing_fault, next_position}
 use Rattle.gfx_grammar.specs.Framing.{head_fault, IsHead, marks, side, past}
 
 -- ---- steps
@@ -89,48 +89,19 @@ marks-append mark kind size payload rest long = by_size mark kind size payload r
 
 -- ---- the head
 
--- the steps of the framing, by what they read
-abbrev steps_of : (short : Bool) (kind size : ℕ) (side : ℕ) (cut : Bool) → Option Fault
-steps_of short kind size n cut =
-    refuse short Truncated
-    (refuse (nat_le (2 ^ 31) kind) Compressed
-    (refuse (nat_lt (2 ^ 27) size) BlockTooLarge
-    (refuse (not (nat_le 1 kind && nat_le kind 5)) UnknownBlock
-    (refuse (nat_le (2 ^ 32) n) TooManyBlocks
-    (refuse cut Truncated
-    None)))))
-
-framing-steps : (at : Position) (bytes : List ℕ)
-    → framing_fault at bytes ≡ steps_of (nat_lt (length bytes) 12) (type_field bytes) (size_field bytes) (side_count at bytes) (nat_lt (length bytes) (12 + size_field bytes))
-unfolding framing_fault
-framing-steps at bytes = refl
-
 pub framing-short : (at : Position) (bytes : List ℕ) → length bytes < 12 → framing_fault at bytes ≡ Some Truncated
-framing-short at bytes short =
-    framing-steps at bytes
-    ∙ ap (λ b. steps_of b (type_field bytes) (size_field bytes) (side_count at bytes) (nat_lt (length bytes) (12 + size_field bytes))) (lt-ltb (length bytes) 12 short)
+unfolding framing_fault
+framing-short at bytes short = refuse-true (nat_lt (length bytes) 12) Truncated _ (lt-ltb (length bytes) 12 short)
 
 -- the steps behind the head
 abbrev pub behind_head : (head : Option Fault) (side : ℕ) (cut : Bool) → Option Fault
-behind_head (Some f) n cut = Some f
-behind_head None n cut = refuse (nat_le (2 ^ 32) n) TooManyBlocks (refuse cut Truncated None)
-
-three : (a b c : Bool) (n : ℕ) (cut : Bool)
-    → refuse a Compressed (refuse b BlockTooLarge (refuse c UnknownBlock (refuse (nat_le (2 ^ 32) n) TooManyBlocks (refuse cut Truncated None))))
-    ≡ behind_head (refuse a Compressed (refuse b BlockTooLarge (refuse c UnknownBlock None))) n cut
-three true b c n cut = refl
-three false true c n cut = refl
-three false false true n cut = refl
-three false false false n cut = refl
+behind_head head n cut = or_else head (refuse (nat_le (2 ^ 32) n) TooManyBlocks (refuse cut Truncated None))
 
 -- twelve bytes there, the head goes first
 pub framing-long : (at : Position) (bytes : List ℕ) → 12 ≤ length bytes
     → framing_fault at bytes ≡ behind_head (head_fault bytes) (side_count at bytes) (nat_lt (length bytes) (12 + size_field bytes))
-unfolding head_fault
-framing-long at bytes there =
-    framing-steps at bytes
-    ∙ ap (λ b. steps_of b (type_field bytes) (size_field bytes) (side_count at bytes) (nat_lt (length bytes) (12 + size_field bytes))) (le-ltb (length bytes) 12 there)
-    ∙ three (nat_le (2 ^ 31) (type_field bytes)) (nat_lt (2 ^ 27) (size_field bytes)) (not (nat_le 1 (type_field bytes) && nat_le (type_field bytes) 5)) (side_count at bytes) (nat_lt (length bytes) (12 + size_field bytes))
+unfolding framing_fault
+framing-long at bytes there = refuse-false (nat_lt (length bytes) 12) Truncated _ (le-ltb (length bytes) 12 there)
 
 pub framing-head_fault : (at : Position) (head rest : List ℕ) (f : Fault) → length head ≡ 12 → head_fault head ≡ Some f → framing_fault at (head ++ rest) ≡ Some f
 framing-head_fault at head rest f there is =

@@ -1,21 +1,17 @@
 -- What the header decides, whatever stands behind it.
-use Rattle.std.proofs.Common.{◌≡◌, ℕ, zero, suc, ◌+◌, ◌*◌, ◌<◌, ◌≤◌, Bool, true, false, not, ◌&&◌, ◌||◌, ◌⊎◌, nat_lt, nat_eq, nat_le, List, ◌++◌, length, take, drop, Option, Some, None, refl, sym, ap, ◌∙◌, arith, inl, inr, length-append}
+use Rattle.std.proofs.Common.{◌≡◌, ℕ, zero, suc, ◌+◌, ◌*◌, ◌<◌, ◌≤◌, Bool, false, not, ◌&&◌, ◌||◌, ◌⊎◌, nat_lt, nat_eq, nat_le, List, ◌++◌, length, take, drop, Option, Some, None, refl, sym, ap, ◌∙◌, arith, inl, inr, length-append}
 use Rattle.std.specs.Int.{w32, from_le_bytes}
 use Rattle.std.proofs.lemmas.Bool.{cases_lt, le-ltb, lt-ltb, ltb-false}
 use Rattle.std.proofs.lemmas.Bool.Decides.{nat_tests}
 use Rattle.std.proofs.lemmas.List.{drop_at, drop-drop}
 use Rattle.gfx_types.specs.declared.names.Fault.{Fault}
 use Rattle.gfx_types.specs.declared.names.Fault.TheVariants.{BadMagic, BadVersion, BadOption, Compressed, Truncated}
-use Rattle.gfx_model.specs.Blocks.{u32_at, refuse, options_fault, option_count, header_length, minor_of, header_fault, bad, first_position, Position}
+use Rattle.gfx_model.specs.Blocks.{u32_at, refuse, or_else, options_fault, option_count, header_length, minor_of, header_fault, bad, first_position, Position}
 use Rattle.gfx_grammar.specs.Splitting.{only_end, after_header, blocks_from, blocks_of}
 use Rattle.gfx_grammar.specs.Framing.{start_fault, IsHeader}
 use Rattle.gfx_grammar.proofs.FramingLaws.{refuse_none, refuse-true, refuse-false, u32_at-append}
 
 -- ---- the steps by what they read
-
-abbrev header_steps : (short bad_magic bad_version many cut : Bool) (options : Option Fault) → Option Fault
-header_steps short bad_magic bad_version many cut options =
-    refuse short Truncated (refuse bad_magic BadMagic (refuse bad_version BadVersion (refuse many BadOption (refuse cut Truncated options))))
 
 abbrev bad_magic : List ℕ → Bool
 bad_magic bytes = not (nat_eq (u32_at bytes 0) 0x52584647)
@@ -23,36 +19,18 @@ bad_magic bytes = not (nat_eq (u32_at bytes 0) 0x52584647)
 abbrev bad_version : List ℕ → Bool
 bad_version bytes = not (nat_eq (u32_at bytes 4) 1000 && (nat_eq (minor_of bytes) 1 || nat_eq (minor_of bytes) 2))
 
-header-steps : (bytes : List ℕ)
-    → header_fault bytes ≡ header_steps (nat_lt (length bytes) 16) (bad_magic bytes) (bad_version bytes) (nat_lt 16 (option_count bytes))
-    (nat_lt (length bytes) (header_length bytes)) (options_fault bytes 16 0 (option_count bytes))
-unfolding header_fault
-header-steps bytes = refl
-
 -- the steps behind the start
 abbrev behind_start : (start : Option Fault) (cut : Bool) (options : Option Fault) → Option Fault
-behind_start (Some f) cut options = Some f
-behind_start None cut options = refuse cut Truncated options
-
-three : (a b c cut : Bool) (options : Option Fault)
-    → refuse a BadMagic (refuse b BadVersion (refuse c BadOption (refuse cut Truncated options)))
-    ≡ behind_start (refuse a BadMagic (refuse b BadVersion (refuse c BadOption None))) cut options
-three true b c cut options = refl
-three false true c cut options = refl
-three false false true cut options = refl
-three false false false cut options = refl
+behind_start start cut options = or_else start (refuse cut Truncated options)
 
 pub header_fault-short : (bytes : List ℕ) → length bytes < 16 → header_fault bytes ≡ Some Truncated
-header_fault-short bytes short =
-    header-steps bytes ∙ refuse-true (nat_lt (length bytes) 16) Truncated _ (lt-ltb (length bytes) 16 short)
+unfolding header_fault
+header_fault-short bytes short = refuse-true (nat_lt (length bytes) 16) Truncated _ (lt-ltb (length bytes) 16 short)
 
 header-long : (bytes : List ℕ) → 16 ≤ length bytes
     → header_fault bytes ≡ behind_start (start_fault bytes) (nat_lt (length bytes) (header_length bytes)) (options_fault bytes 16 0 (option_count bytes))
-unfolding start_fault
-header-long bytes there =
-    header-steps bytes
-    ∙ refuse-false (nat_lt (length bytes) 16) Truncated _ (le-ltb (length bytes) 16 there)
-    ∙ three (bad_magic bytes) (bad_version bytes) (nat_lt 16 (option_count bytes)) (nat_lt (length bytes) (header_length bytes)) (options_fault bytes 16 0 (option_count bytes))
+unfolding header_fault
+header-long bytes there = refuse-false (nat_lt (length bytes) 16) Truncated _ (le-ltb (length bytes) 16 there)
 
 start_none : (o : Option Fault) (cut : Bool) (options : Option Fault) → behind_start o cut options ≡ None → (o ≡ None) × (refuse cut Truncated options ≡ None)
 start_none (Some f) cut options is = absurd cc
@@ -199,7 +177,7 @@ header_good bytes good =
     elim (cases_lt (length bytes) 16) [
       | inl short ↦ absurd (let fault = header_fault-short bytes short in cc)
       | inr there ↦
-          let start = start_none (start_fault bytes) _ _ (sym (header-long bytes there) ∙ good) in
+          let start = start_none (start_fault bytes) (nat_lt (length bytes) (header_length bytes)) (options_fault bytes 16 0 (option_count bytes)) (sym (header-long bytes there) ∙ good) in
           let cut = refuse_none (nat_lt (length bytes) (header_length bytes)) Truncated _ start.1 in
           (there, start.0, ltb-false _ _ cut.0, cut.1)
     ]

@@ -1,22 +1,17 @@
 -- The parts of a file by themselves: the start of its header, a block's twelve bytes of size and type, and a whole block.
-use Rattle.std.specs.Prelude.{◌≡◌, ℕ, ◌+◌, ◌^◌, ◌<◌, ◌≤◌, ◌==◌, nat_lt, nat_le, Bool, true, false, not, ◌&&◌, ◌||◌, if◌then◌else◌, List, [], ◌∷◌, ◌++◌, length, take, drop, map, flat_map, Option, Some, None}
+use Rattle.std.specs.Prelude.{◌≡◌, ℕ, ◌+◌, ◌<◌, ◌≤◌, ◌==◌, nat_le, Bool, true, false, not, ◌&&◌, ◌||◌, if◌then◌else◌, List, [], ◌∷◌, ◌++◌, length, take, drop, map, flat_map, Option, Some, None}
 use Rattle.gfx_types.specs.declared.names.Fault.{Fault}
-use Rattle.gfx_types.specs.declared.names.Fault.TheVariants.{BadMagic, BadVersion, BadOption, Compressed, BlockTooLarge, UnknownBlock, TooManyBlocks}
+use Rattle.gfx_types.specs.declared.names.Fault.TheVariants.{TooManyBlocks}
 use Rattle.gfx_model.specs.Events.{Event}
 use Rattle.gfx_model.specs.Events.Event.{BeginSection, EndSection}
+use Rattle.gfx_model.specs.Limits.{max_payload, max_side_blocks}
 use Rattle.gfx_model.specs.Spelling.{HasSpelling, type_of, payload, encoding, header}
-use Rattle.gfx_model.specs.Blocks.{IsThread, u32_at, refuse, options_fault, option_count, header_length, minor_of, Position, size_field, type_field, payload_field, Content, skipped, effect, Whole, End, side_count, next_position}
+unfoldable pub use Rattle.gfx_model.specs.Blocks.{start_fault, head_fault}
+use Rattle.gfx_model.specs.Blocks.{IsThread, u32_at, refuse, options_fault, option_count, header_length, Position, size_field, type_field, payload_field, Content, skipped, effect, Whole, End, side_count, next_position}
 use Rattle.gfx_grammar.specs.Rows.{read_content}
 use Rattle.gfx_grammar.specs.Splitting.{Stops, front, block_at, Blocks}
 
 -- ---- the header
-
--- the first broken step of the sixteen bytes that every header begins with
-unfoldable pub start_fault : List ℕ → Option Fault
-start_fault start =
-    refuse (not (u32_at start 0 == 0x52584647)) BadMagic
-    (refuse (not (u32_at start 4 == 1000 && (minor_of start == 1 || minor_of start == 2))) BadVersion
-    (refuse (nat_lt 16 (option_count start)) BadOption None))
 
 -- the bytes are a header in order, and nothing else
 pub record IsHeader (bytes : List ℕ) : Type 0 where
@@ -26,13 +21,6 @@ pub record IsHeader (bytes : List ℕ) : Type 0 where
   pub options : options_fault bytes 16 0 (option_count bytes) ≡ None
 
 -- ---- a block's head
-
--- the first broken step of a block's twelve bytes of size and type
-unfoldable pub head_fault : List ℕ → Option Fault
-head_fault head =
-    refuse (nat_le (2 ^ 31) (type_field head)) Compressed
-    (refuse (nat_lt (2 ^ 27) (size_field head)) BlockTooLarge
-    (refuse (not (nat_le 1 (type_field head) && nat_le (type_field head) 5)) UnknownBlock None))
 
 -- the twelve bytes say this type and this size, and break no step
 pub record IsHead (kind size : ℕ) (head : List ℕ) : Type 0 where
@@ -49,9 +37,9 @@ marks mark kind size payload = kind == 2 && size == 12 && nat_le 12 (length payl
 abbrev pub side : Position → Bool → ℕ
 side at begins = if at.in_section || begins then at.inside else at.outside
 
--- each side has room for 2^32 blocks
+-- each side has room for so many blocks
 abbrev pub count_fault : Position → Bool → Option Fault
-count_fault at begins = refuse (nat_le (2 ^ 32) (side at begins)) TooManyBlocks None
+count_fault at begins = refuse (nat_le max_side_blocks (side at begins)) TooManyBlocks None
 
 -- the position behind a block with a payload of this size, which begins or ends the section or does neither
 abbrev pub past : Position → (size : ℕ) (begins ends : Bool) → Position
@@ -86,7 +74,7 @@ says_end (effect thread event) = event_ends event
 pub record IsWhole (m : ℕ) (at : Position) (bytes : List ℕ) (w : Whole) : Type 0 where
   pub there : 12 ≤ length bytes
   pub head : head_fault bytes ≡ None
-  pub counted : side_count at bytes < 2 ^ 32
+  pub counted : side_count at bytes < max_side_blocks
   pub payload_there : 12 + size_field bytes ≤ length bytes
   pub payload : read_content m (type_field bytes) (payload_field bytes) ≡ Some w.content
   pub same : w ≡ block_at at (take (12 + size_field bytes) bytes) w.content
@@ -100,7 +88,7 @@ pub record IsBlock (m : ℕ) (bytes : List ℕ) (content : Content) : Type 0 whe
 -- the block that was found is one by itself, and the bytes go on behind it
 pub record IsFound (m : ℕ) (at : Position) (bytes : List ℕ) (w : Whole) : Type 0 where
   pub block : IsBlock m w.bytes w.content
-  pub counted : side_count at w.bytes < 2 ^ 32
+  pub counted : side_count at w.bytes < max_side_blocks
   pub parts : bytes ≡ w.bytes ++ drop (length w.bytes) bytes
   pub here : w ≡ block_at at w.bytes w.content
   pub long : length w.bytes ≡ 12 + size_field bytes
@@ -121,10 +109,10 @@ abbrev pub place_after : Position → List Part → Position
 place_after at [] = at
 place_after at (p ∷ ps) = place_after (next_position at p.bytes) ps
 
--- no side gets more than 2^32 blocks by them
+-- no side gets too many blocks by them
 abbrev pub HaveRoom : Position → List Part → Type 0
 HaveRoom at [] = Unit {0}
-HaveRoom at (p ∷ ps) = (side_count at p.bytes < 2 ^ 32) × HaveRoom (next_position at p.bytes) ps
+HaveRoom at (p ∷ ps) = (side_count at p.bytes < max_side_blocks) × HaveRoom (next_position at p.bytes) ps
 
 abbrev pub with_items : List Whole → Blocks → Blocks
 with_items ws rest = record { items = ws ++ rest.items; end = rest.end }
@@ -134,7 +122,7 @@ abbrev pub Splits : ℕ → Position → List ℕ → List Whole → End → Typ
 Splits m at bytes [] end = front m at bytes ≡ Stops end
 Splits m at bytes (w ∷ ws) end =
     (rest : List ℕ) × (bytes ≡ w.bytes ++ rest) × (w ≡ block_at at w.bytes w.content)
-    × IsBlock m w.bytes w.content × (side_count at w.bytes < 2 ^ 32) × Splits m (next_position at w.bytes) rest ws end
+    × IsBlock m w.bytes w.content × (side_count at w.bytes < max_side_blocks) × Splits m (next_position at w.bytes) rest ws end
 
 -- ---- what is written
 
@@ -142,7 +130,7 @@ Splits m at bytes (w ∷ ws) end =
 pub record CanBeWritten (m thread : ℕ) (event : Event) : Type 0 where
   pub fits : HasSpelling m event
   pub thread_fits : IsThread (type_of event) thread
-  pub small : length (payload m thread event) ≤ 2 ^ 27
+  pub small : length (payload m thread event) ≤ max_payload
 
 -- an event and its thread, 0 for a marker
 pub record Written : Type 0 where

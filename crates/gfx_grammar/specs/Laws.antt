@@ -1,5 +1,5 @@
 -- Laws of the grammar, which functions with empty bodies promise.
-use Rattle.std.specs.Prelude.{◌*◌, nat_lt, ◌≤◌, [], ◌∷◌, length, ◌⊎◌, ◌++◌, ◌^◌, ◌<◌, map, flat_map, Bool, false, ◌==◌, ◌&&◌, ◌||◌, nat_le, None, ◌+◌, drop, ◌≡◌, ℕ, List, Some}
+use Rattle.std.specs.Prelude.{◌*◌, nat_lt, ◌≤◌, [], ◌∷◌, length, ◌⊎◌, ◌++◌, ◌<◌, map, flat_map, Bool, false, ◌==◌, ◌&&◌, ◌||◌, nat_le, None, ◌+◌, drop, ◌≡◌, ℕ, List, Some}
 use Rattle.std.specs.List.{AllByRecursion}
 use Rattle.gfx_types.specs.declared.names.Fault.{Fault}
 use Rattle.gfx_types.specs.declared.names.Fault.TheVariants.{Truncated}
@@ -7,6 +7,7 @@ use Rattle.gfx_model.specs.Events.{Event}
 use Rattle.gfx_model.specs.Events.Event.{BeginSection, EndSection}
 use Rattle.gfx_model.specs.Spelling.{header, Spells, id_of, type_of}
 use Rattle.gfx_model.specs.Blocks.{header_fault, refuse, option_count, options_fault, side_count, minor_of, first_position, Whole, clean, next_position, size_field, Content, IsContent, End, AreBlocks, Position, EndsHere, IsFront}
+use Rattle.gfx_model.specs.Limits.{max_side_blocks}
 use Rattle.gfx_model.specs.Trimmed.{file_of}
 use Rattle.gfx_grammar.specs.Reads.{AreBytes}
 use Rattle.gfx_grammar.specs.Rows.{read_event, read_content}
@@ -93,7 +94,7 @@ RestDoesNotMatter = (m : ℕ) (at : Position) (bytes rest : List ℕ) (w : Whole
 
 -- a block is found wherever it stands, while its side has room
 abbrev pub PlaceDoesNotMatter : Type 0
-PlaceDoesNotMatter = (m : ℕ) (at : Position) (bytes rest : List ℕ) (c : Content) → IsBlock m bytes c → side_count at bytes < 2 ^ 32
+PlaceDoesNotMatter = (m : ℕ) (at : Position) (bytes rest : List ℕ) (c : Content) → IsBlock m bytes c → side_count at bytes < max_side_blocks
     → front m at (bytes ++ rest) ≡ Finds (block_at at bytes c)
 
 -- what a block says decides on which side it counts, and where the next block stands
@@ -119,9 +120,9 @@ FileIsRead = (m : ℕ) (made : List Event) (blocks : List Whole) → (m ≡ 1) �
     → AllByRecursion (λ w. IsBlock m w.bytes w.content) blocks → HaveRoom (first_position (header m)) (file_parts m made blocks)
     → blocks_of (file_of m made blocks) ≡ record { items = placed (first_position (header m)) (file_parts m made blocks); end = clean }
 
--- such a file has room for 2^32 blocks of the section, and as many behind it
+-- such a file has room for as many blocks of the section as a side may have, and for as many behind it
 abbrev pub FileHasRoom : Type 0
 FileHasRoom = (m n : ℕ) (made : List Event) (blocks : List Whole)
-    → AllByRecursion (CanBeWritten m 0) (BeginSection n ∷ made ++ EndSection n ∷ []) → AllByRecursion IsUnmarked made → length made + 2 ≤ 2 ^ 32
-    → AllByRecursion (λ w. IsBlock m w.bytes w.content × AreBytes w.bytes × (says_begin w.content ≡ false)) blocks → length blocks ≤ 2 ^ 32
+    → AllByRecursion (CanBeWritten m 0) (BeginSection n ∷ made ++ EndSection n ∷ []) → AllByRecursion IsUnmarked made → length made + 2 ≤ max_side_blocks
+    → AllByRecursion (λ w. IsBlock m w.bytes w.content × AreBytes w.bytes × (says_begin w.content ≡ false)) blocks → length blocks ≤ max_side_blocks
     → HaveRoom (first_position (header m)) (file_parts m (BeginSection n ∷ made ++ EndSection n ∷ []) blocks)

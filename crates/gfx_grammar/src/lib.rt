@@ -98,7 +98,7 @@ pub fn file_is_read()
     ensures { FileIsRead }
 {}
 
-/// Such a file has room for 2^32 blocks of the section, and as many behind it.
+/// Such a file has room for as many blocks of the section as a side may have, and for as many behind it.
 pub fn file_has_room()
     ensures { FileHasRoom }
 {}

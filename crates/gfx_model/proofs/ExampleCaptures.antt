@@ -1,5 +1,5 @@
 -- The captures of the examples.
-use Rattle.gfx_model.specs.Blocks.{Whole, framing_fault, header_fault}
+use Rattle.gfx_model.specs.Blocks.{Whole, framing_fault, header_fault, start_fault, head_fault}
 use Rattle.gfx_model.specs.Blocks.Content.{effect}
 use Rattle.gfx_model.specs.Bytes.{byte}
 use Rattle.gfx_model.specs.Checks.{broken, layouts_of, turns_fault}
@@ -23,7 +23,7 @@ use Rattle.std.specs.Prelude.{List, [], drop, flat_map, length, map, sum, take, 
 
 -- opens the definitions that are computed
 unfoldable pub opened : ℕ
-unfolding fields_of spelling id_of type_of payload encoding resources_of live ids used bound mapped buffer signalled acquired executed_changes layout next_frame open_section layouts_of turns_fault broken place_of row_of changes_of_command effect_of steps byte frames section fills_of header_fault framing_fault judge cut_before digits
+unfolding fields_of spelling id_of type_of payload encoding resources_of live ids used bound mapped buffer signalled acquired executed_changes layout next_frame open_section layouts_of turns_fault broken place_of row_of changes_of_command effect_of steps byte frames section fills_of start_fault header_fault head_fault framing_fault judge cut_before digits
 opened = 0
 
 -- the calls of the smallest capture that shows a frame of three bytes

@@ -71,13 +71,18 @@ abbrev pub is_present : Content → Bool
 is_present skipped = false
 is_present (effect thread event) = type_of event == 4 && id_of event == 48
 
--- the four lines on a file in minor version m
+-- the four lines on a file in minor version m with so many blocks, calls and frames
+abbrev pub count_lines : (m blocks calls frames : ℕ) → List ℕ
+count_lines m blocks calls frames =
+    line (codes "version 1000." ++ decimal m)
+    ++ count_line (codes "blocks") blocks
+    ++ count_line (codes "calls") calls
+    ++ count_line (codes "frames") frames
+
+-- those on a file of these blocks
 abbrev pub counts_text : ℕ → List Whole → List ℕ
 counts_text m blocks =
-    line (codes "version 1000." ++ decimal m)
-    ++ count_line (codes "blocks") (length blocks)
-    ++ count_line (codes "calls") (count_by (λ w. is_call w.content) blocks)
-    ++ count_line (codes "frames") (count_by (λ w. is_present w.content) blocks)
+    count_lines m (length blocks) (count_by (λ w. is_call w.content) blocks) (count_by (λ w. is_present w.content) blocks)
 
 -- the line on a bad block
 abbrev pub bad_line : Fault → ℕ → ℕ → List ℕ

@@ -18,7 +18,7 @@ use Rattle.gfx_model.specs.Bytes.{byte}
 use Rattle.gfx_model.specs.History.{steps}
 use Rattle.gfx_model.specs.Frames.{frames}
 use Rattle.gfx_model.specs.Section.{section, fills_of}
-use Rattle.gfx_model.specs.Blocks.{header_fault, framing_fault}
+use Rattle.gfx_model.specs.Blocks.{header_fault, start_fault, head_fault, framing_fault}
 use Rattle.gfx_model.specs.Blocks.End.{clean}
 use Rattle.gfx_model.specs.Meaning.{MeansUpTo, RangeEnd, Means, judge}
 use Rattle.gfx_model.specs.Trimmed.{cut_before, trimmed_by, boundary, IsTrimmed}
@@ -34,7 +34,7 @@ use Rattle.gfx_trim_law.proofs.Follows.{rest_leaves_frames}
 
 -- opens all that is computed here
 opened : ℕ
-unfolding fields_of spelling id_of type_of payload encoding resources_of live ids used bound mapped buffer signalled acquired executed_changes layout next_frame open_section broken turns_fault layouts_of place_of row_of changes_of_command effect_of byte steps frames section fills_of header_fault framing_fault judge cut_before read_number read_raw read_both read_as read_items read_list exactly present_row by_row read_event read_payload read_content front blocks_within blocks_from blocks_of
+unfolding fields_of spelling id_of type_of payload encoding resources_of live ids used bound mapped buffer signalled acquired executed_changes layout next_frame open_section broken turns_fault layouts_of place_of row_of changes_of_command effect_of byte steps frames section fills_of start_fault header_fault head_fault framing_fault judge cut_before read_number read_raw read_both read_as read_items read_list exactly present_row by_row read_event read_payload read_content front blocks_within blocks_from blocks_of
 opened = 0
 
 -- three bytes of memory are copied into the image of a swapchain and shown, and shown again
