@@ -27,7 +27,7 @@ use Rattle.gfx_cli.specs.declared.stop.Stop.TheVariants.{WantMemory, BadFile, No
 use Rattle.gfx_cli.specs.Commands.{IsGood, Leaves, asked_by, text_by, text_before}
 use Rattle.gfx_cli.specs.Counts.{CountsAll}
 use Rattle.gfx_cli.specs.Ends.{Ends, IsDone, Stops}
-use Rattle.gfx_cli.specs.Stop.{of_decoder, of_show, of_trim, IsUnwritten}
+use Rattle.gfx_cli.specs.Stop.{of_decoder, of_show, of_trim, IsUnwritten, MissesNone}
 use Rattle.gfx_cli.specs.Text.{at_clean, counts_text, info_text, line_feed}
 
 -- ---- `info`
@@ -38,6 +38,12 @@ pub info_fails : (taken : Option (List ℕ)) (why : DecodeFault) (all rest bytes
 info_fails taken (decoder.Bad fault block offset) all rest bytes end is = (end, appends_none taken)
 info_fails taken decoder.ReadFault all rest bytes end is = record { reads = tt; read = bytes; parts = is; text = appends_none taken; front = nothing_written taken (info_text all) }
 info_fails taken decoder.WantMemory all rest bytes end is = nothing_written taken (info_text all)
+
+-- and no frame is asked for
+pub info_misses_none : (why : DecodeFault) → MissesNone (of_decoder why)
+info_misses_none (decoder.Bad fault block offset) = tt
+info_misses_none decoder.ReadFault = tt
+info_misses_none decoder.WantMemory = tt
 
 -- four lines, in the order in which they are written
 four_lines : (v m t b s k c l f e : List ℕ) → v ++ m ++ e ++ (t ++ s) ++ b ++ e ++ (k ++ s) ++ c ++ e ++ (l ++ s) ++ f ++ e

@@ -5,8 +5,8 @@ use Rattle.gfx_cli.specs.declared.status.Status.{Status}
 use Rattle.gfx_cli.specs.declared.status.Status.TheVariants as status
 use Rattle.gfx_cli.specs.declared.stop.Stop.{Stop}
 use Rattle.gfx_cli.specs.declared.stop.Stop.TheVariants.{WantMemory, BadFile, NoSuchFrame, ReadFault, WriteFault}
-use Rattle.gfx_cli.specs.Run.{IsOfCommands}
-use Rattle.gfx_cli.specs.Stop.{status_of, line_of}
+use Rattle.gfx_cli.specs.Run.{IsOfCommands, IsOfTexts}
+use Rattle.gfx_cli.specs.Stop.{status_of, line_of, IsUnwritten, MissesNone}
 use Rattle.gfx_cli.specs.Text.{bad_block_line, no_such_frame_line, read_fault_line}
 
 -- a stop was told, or memory was wanting, or the write failed
@@ -87,3 +87,29 @@ pub told_exactly : (Line : List ℕ → Type 0) (stop wanted : Stop) (result : S
 told_exactly Line stop wanted result same failed told silent none (inl want) = inl (silent want)
 told_exactly Line stop wanted result same failed told silent none (inr is) =
     told_or_wanting result (status_of wanted) (Line (line_of wanted)) same failed (subst (λ s. IsToldBy result (status_of s) (Line (line_of s)) same failed) is told) none
+
+-- what stops a command that reads no file
+pub text_status : (stop : Stop) (result : Status) (line same failed : Type 0) → IsUnwritten stop → IsToldBy result (status_of stop) line same failed → IsOfTexts result
+text_status (BadFile fault block offset) result line same failed why told = absurd why
+text_status (NoSuchFrame first last) result line same failed why told = absurd why
+text_status ReadFault result line same failed why told = absurd why
+text_status WriteFault result line same failed why (inl is) = rw is.0 tt
+text_status WantMemory result line same failed why (inl is) = rw is.0 tt
+text_status stop result line same failed why (inr (inl is)) = rw is.0 tt
+text_status stop result line same failed why (inr (inr is)) = rw is.0 tt
+
+-- where no write failed, it is want of memory
+pub text_wants : (stop : Stop) → IsUnwritten stop → ¬ (stop ≡ WriteFault) → stop ≡ WantMemory
+text_wants (BadFile fault block offset) why none = absurd why
+text_wants (NoSuchFrame first last) why none = absurd why
+text_wants ReadFault why none = absurd why
+text_wants WriteFault why none = absurd (none refl)
+text_wants WantMemory why none = refl
+
+-- a stop that misses no frame has another status
+pub misses_none : (stop : Stop) → MissesNone stop → status_of stop ≡ status.NoSuchFrame → ⊥
+misses_none (BadFile fault block offset) why is = absurd cc
+misses_none (NoSuchFrame first last) why is = absurd why
+misses_none ReadFault why is = absurd cc
+misses_none WriteFault why is = absurd cc
+misses_none WantMemory why is = absurd cc

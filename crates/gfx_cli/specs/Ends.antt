@@ -1,11 +1,12 @@
 -- How a command ends, over the bytes that the source had left and has left.
-use Rattle.std.specs.Prelude.{◌≡◌, ℕ, List, ◌++◌, Option, Result, Ok, Err}
+use Rattle.std.specs.Prelude.{◌≡◌, ℕ, List, [], ◌++◌, Option, Result, Ok, Err, OnOk, IfErr}
 use Rattle.std.specs.Io.KnownBytes.{Appends}
 use Rattle.gfx_io.specs.Pieces.{AppendsPart}
 use Rattle.gfx_words.specs.declared.command.Command.{Command}
 use Rattle.gfx_cli.specs.declared.stop.Stop.{Stop}
 use Rattle.gfx_cli.specs.declared.stop.Stop.TheVariants.{WantMemory, BadFile, NoSuchFrame, ReadFault, WriteFault}
 use Rattle.gfx_cli.specs.Commands.{IsGood, IsBad, LacksFrame, Leaves, Reads, text_by, text_before}
+use Rattle.gfx_cli.specs.Stop.{IsUnwritten}
 
 -- all was written
 pub record IsDone (c : Command) (before after : Option (List ℕ)) (bytes left : List ℕ) : Type 0 where
@@ -34,3 +35,9 @@ Stops c before after WantMemory bytes left = AppendsPart before after (text_by c
 abbrev pub Ends : Command → Option (List ℕ) → Option (List ℕ) → Result Unit Stop → List ℕ → List ℕ → Type 0
 Ends c before after (Ok done) bytes left = IsDone c before after bytes left
 Ends c before after (Err stop) bytes left = Stops c before after stop bytes left
+
+-- how a command ends that reads no file, whatever the source is
+pub record EndsAlone (c : Command) (before after : Option (List ℕ)) (end : Result Unit Stop) : Type 0 where
+  pub text : OnOk end (Appends before after (text_by c []))
+  pub front : AppendsPart before after (text_by c [])
+  pub why : IfErr end IsUnwritten

@@ -1,5 +1,6 @@
 -- How a run of the program ends.
-use Rattle.std.specs.Prelude.{◌≡◌, ℕ, List, Result, Err, ⊤}
+use Rattle.std.specs.Prelude.{◌≡◌, ℕ, List, [], Result, Err, ⊤}
+use Rattle.std.specs.Io.KnownBytes.{Appends}
 use Rattle.std.specs.declared.option.Option.{Option}
 use Rattle.gfx_io.specs.Causes.{Rose}
 use Rattle.gfx_io.specs.Pieces.{AppendsPart}
@@ -39,6 +40,25 @@ pub record WritesFront (words : List (List ℕ)) (left_old left_new taken_old ta
   pub command : Command
   pub named : IsNamed words command
   pub front : IfTold left_old left_new (λ bytes left. AppendsPart taken_old taken_new (text_by command bytes))
+
+-- the statuses of a command that reads no file
+abbrev pub IsOfTexts : Status → Type 0
+IsOfTexts Done = ⊤
+IsOfTexts WantMemory = ⊤
+IsOfTexts WriteFault = ⊤
+IsOfTexts Usage = ⊥
+IsOfTexts BadFile = ⊥
+IsOfTexts NoSuchFrame = ⊥
+IsOfTexts ReadFault = ⊥
+IsOfTexts BadScript = ⊥
+IsOfTexts CallRefused = ⊥
+IsOfTexts LogFull = ⊥
+
+-- a command that reads no file wrote its text, or a front of it
+pub record RunsAlone (c : Command) (taken_old taken_new : Option (List ℕ)) (status : Status) : Type 0 where
+  pub text : status ≡ Done → Appends taken_old taken_new (text_by c [])
+  pub front : AppendsPart taken_old taken_new (text_by c [])
+  pub statuses : IsOfTexts status
 
 -- how often a source or a sink had failed before a call, and after it
 pub record Failures : Type 0 where

@@ -49,6 +49,14 @@ IsUnwritten ReadFault = ⊥
 IsUnwritten WriteFault = ⊤
 IsUnwritten WantMemory = ⊤
 
+-- the stop does not say that a frame isn't there
+abbrev pub MissesNone : Stop → Type 0
+MissesNone (BadFile fault block offset) = ⊤
+MissesNone (NoSuchFrame first last) = ⊥
+MissesNone ReadFault = ⊤
+MissesNone WriteFault = ⊤
+MissesNone WantMemory = ⊤
+
 -- the status with which the program ends
 abbrev pub status_of : Stop → Status
 status_of (BadFile fault block offset) = status.BadFile

@@ -11,10 +11,10 @@ ghost use Rattle.gfx_words.specs.declared.range.FrameRange.{FrameRange as Range}
 ghost use Rattle.gfx_trim.specs.Keeps.{Keeps};
 ghost use Rattle.gfx_cli.specs.Commands.{Reads, asked_by};
 ghost use Rattle.gfx_trial.specs.Text.{trial_text};
-ghost use Rattle.gfx_cli.specs.Ends.{Ends};
-ghost use Rattle.gfx_cli.specs.Stop.{IsUnwritten};
+ghost use Rattle.gfx_cli.specs.Ends.{Ends, EndsAlone};
+ghost use Rattle.gfx_cli.specs.Stop.{IsUnwritten, MissesNone};
 ghost use Rattle.gfx_cli.specs.Words.{IsNamed, IsOutside, IsOnly};
-ghost use Rattle.gfx_words.specs.declared.command.Command.TheVariants.{Replay, Trim};
+ghost use Rattle.gfx_words.specs.declared.command.Command.TheVariants.{Info, Replay, Trim};
 
 use crate::Stop;
 use crate::info::write_counts;
@@ -125,6 +125,8 @@ pub(crate) fn run_command<S: Source, K: Sink>(
     ensures ends { IfTold (S.left source.old) (S.left source.new) (Ends command (K.taken sink.old) (K.taken sink.new) result) }
     ensures keeps { (range : Range) → command ≡ Trim range → IfTold (S.left source.old) (S.left source.new) (λ bytes _. AreBytes bytes → OnOk result (Keeps range.first range.last (K.taken sink.old) (K.taken sink.new) bytes)) }
     ensures unread { ¬ Reads command → source.new ≡ source.old }
+    ensures alone { ¬ Reads command → EndsAlone command (K.taken sink.old) (K.taken sink.new) result }
+    ensures info { command ≡ Info → IfErr result MissesNone }
     ensures read_fault { result ≡ Err Stop.ReadFault → Rose (S.faults source.old) (S.faults source.new) }
     ensures write_fault { result ≡ Err Stop.WriteFault → Rose (K.faults sink.old) (K.faults sink.new) }
     ensures later { (S.faults source.old ≤ S.faults source.new) × (K.faults sink.old ≤ K.faults sink.new) }

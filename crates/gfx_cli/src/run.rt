@@ -6,13 +6,13 @@ ghost use Rattle.gfx_io.specs.Pieces.{AppendsPart};
 ghost use Rattle.gfx_io.specs.Told.{IfTold, IsTold};
 ghost use Rattle.gfx_grammar.specs.Reads.{AreBytes};
 ghost use Rattle.gfx_words.specs.declared.range.FrameRange.{FrameRange};
-ghost use Rattle.gfx_words.specs.declared.command.Command.TheVariants.{Trim};
+ghost use Rattle.gfx_words.specs.declared.command.Command.TheVariants.{Info, Trim};
 ghost use Rattle.gfx_trim.specs.Keeps.{Keeps};
 ghost use Rattle.gfx_types.specs.declared.names.Fault.{Fault as FileFault};
 ghost use Rattle.gfx_words.specs.declared.command.Command.{Command};
 ghost use Rattle.gfx_cli.specs.declared.stop.Stop.TheVariants as stop;
 ghost use Rattle.gfx_cli.specs.Commands.{IsBad, IsGood, LacksFrame, Reads};
-ghost use Rattle.gfx_cli.specs.Run.{IsOfCommands, IsNote, Runs, WritesFront};
+ghost use Rattle.gfx_cli.specs.Run.{IsOfCommands, IsNote, Runs, RunsAlone, WritesFront};
 ghost use Rattle.gfx_cli.specs.Text.{bad_block_line, no_such_frame_line, read_fault_line, usage_line};
 ghost use Rattle.gfx_cli.specs.Words.{IsNamed, IsOutside};
 
@@ -42,6 +42,12 @@ pub fn run_files<S: Source, K: Sink, N: Sink>(
 
     // A command that reads no file leaves the source alone.
     ensures unread { (command : Command) → IsNamed (map string_bytes words.now) command → ¬ Reads command → source.new ≡ source.old }
+
+    // It is promised of any source: its text, and that just want of memory or a failed write stops it. `info` asks for no frame.
+    ensures alone { (command : Command) → IsNamed (map string_bytes words.now) command → ¬ Reads command
+        → RunsAlone command (K.taken sink.old) (K.taken sink.new) result
+        × (¬ Rose (K.faults sink.old) (K.faults sink.new) → (result ≡ Status.Done) ⊎ (result ≡ Status.WantMemory)) }
+    ensures info { IsNamed (map string_bytes words.now) Info → result ≡ Status.NoSuchFrame → ⊥ }
 
     // The file has all that the command asks for, and its text was written.
     ensures done { result ≡ Status.Done → Runs (map string_bytes words.now) (S.left source.old) (S.left source.new) (K.taken sink.old) (K.taken sink.new) (Ok tt)

@@ -2,7 +2,7 @@ use Rattle.std.proofs.Common.{refl, sym, subst}
 use Rattle.gfx_io.specs.Told.{IfTold}
 use Rattle.gfx_words.specs.declared.command.Command.TheVariants.{Help, Make, Version}
 use Rattle.gfx_trial.specs.Text.{trial_text}
-use Rattle.gfx_cli.specs.Ends.{Ends}
+use Rattle.gfx_cli.specs.Ends.{Ends, EndsAlone}
 use Rattle.gfx_cli.specs.Text.{help_text, version_line}
 use Rattle.gfx_cli.proofs.Ending.{text_ends, told_same}
 use Rattle.gfx_cli.proofs.commands.run_command.Goals as goal
@@ -34,3 +34,21 @@ returns-in-Make-clause-ends g c =
     let at = c.make.ensures in
     subst (λ k. IfTold left left (Ends k before after c.make.result)) (sym c.in-Make.is)
     (told_same left (Ends (Make n) before after c.make.result) (λ bytes. text_ends (Make n) before after c.make.result (trial_text n) bytes tt refl refl at.ok at.front at.why))
+
+pub returns-in-Help-clause-alone : goal.returns-in-Help-clause-alone
+returns-in-Help-clause-alone g c reads =
+    let at = c.write_text.ensures in
+    subst (λ k. EndsAlone k (g.K.Sink.taken c.args.sink.now) (g.K.Sink.taken c.write_text.new.sink) c.write_text.result) (sym c.in-Help.is)
+    (record { text = at.ok; front = at.front; why = at.why })
+
+pub returns-in-Version-clause-alone : goal.returns-in-Version-clause-alone
+returns-in-Version-clause-alone g c reads =
+    let at = c.write_text-in-Version.ensures in
+    subst (λ k. EndsAlone k (g.K.Sink.taken c.args.sink.now) (g.K.Sink.taken c.write_text-in-Version.new.sink) c.write_text-in-Version.result) (sym c.in-Version.is)
+    (record { text = at.ok; front = at.front; why = at.why })
+
+pub returns-in-Make-clause-alone : goal.returns-in-Make-clause-alone
+returns-in-Make-clause-alone g c reads =
+    let at = c.make.ensures in
+    subst (λ k. EndsAlone k (g.K.Sink.taken c.args.sink.now) (g.K.Sink.taken c.make.new.sink) c.make.result) (sym c.in-Make.is)
+    (record { text = at.ok; front = at.front; why = at.why })

@@ -1,10 +1,10 @@
-use Rattle.std.proofs.Common.{inr, ap, refl, subst, sym}
-use Rattle.std.specs.Prelude.{Err, IfSome, map, string_bytes}
+use Rattle.std.proofs.Common.{inl, inr, ap, refl, subst, sym}
+use Rattle.std.specs.Prelude.{Ok, Err, IfSome, map, string_bytes}
 use Rattle.std.specs.Io.KnownBytes.{Appends}
 use Rattle.gfx_decode.proofs.Told.{told_if}
-use Rattle.gfx_words.specs.declared.command.Command.TheVariants.{Trim}
-use Rattle.gfx_cli.specs.Commands.{IsBad, IsGood, LacksFrame}
-use Rattle.gfx_cli.specs.Ends.{Ends, IsDone, Stops}
+use Rattle.gfx_words.specs.declared.command.Command.TheVariants.{Info, Trim}
+use Rattle.gfx_cli.specs.Commands.{IsBad, IsGood, LacksFrame, Reads}
+use Rattle.gfx_cli.specs.Ends.{Ends, EndsAlone, IsDone, Stops}
 use Rattle.gfx_cli.specs.Run.{Runs, usage_noted, stop_noted}
 use Rattle.gfx_cli.specs.Stop.{line_of, status_of}
 use Rattle.gfx_cli.specs.Text.{usage_line}
@@ -12,7 +12,7 @@ use Rattle.gfx_cli.specs.declared.status.Status.TheVariants as status
 use Rattle.gfx_cli.specs.declared.stop.Stop.TheVariants as stop
 use Rattle.gfx_cli.proofs.Deciding.{bad_stops, good_not_bad, good_not_lacking, good_stops, lack_stops, told_at}
 use Rattle.gfx_cli.proofs.Ending.{front_of}
-use Rattle.gfx_cli.proofs.Telling.{bad_told, by_cause, lack_told, read_told, status_tells, stop_is_built, stop_status, told_exactly}
+use Rattle.gfx_cli.proofs.Telling.{bad_told, by_cause, lack_told, misses_none, read_told, status_tells, stop_is_built, stop_status, text_status, text_wants, told_exactly}
 use Rattle.gfx_cli.proofs.run.run_files.Goals as goal
 
 pub returns-in_default-clause-noted : goal.returns-in_default-clause-noted
@@ -159,3 +159,31 @@ returns-in-Ok-clause-lacks_exactly g c other first last named told lacks reads w
     let (all, rest, found, done) = told_at _ _ (LacksFrame command first last) (IsDone command (g.K.Sink.taken c.args.sink.now) (g.K.Sink.taken c.run_command.new.sink)) told
     (subst (λ k. IfSome (g.S.Source.left c.args.source.now) (LacksFrame k first last)) same lacks) c.in-Ok.ensures.ends in
     absurd (good_not_lacking command first last all done.good found)
+
+pub returns-in-Ok-clause-alone : goal.returns-in-Ok-clause-alone
+returns-in-Ok-clause-alone g c other named reads =
+    let same = c.in-Some.ensures.only other named in
+    let ends : EndsAlone other (g.K.Sink.taken c.args.sink.now) (g.K.Sink.taken c.run_command.new.sink) (Ok tt) =
+      subst (λ k. ¬ Reads k → EndsAlone k (g.K.Sink.taken c.args.sink.now) (g.K.Sink.taken c.run_command.new.sink) (Ok tt)) (sym same) c.in-Ok.ensures.alone reads in
+    (record { text = λ is. ends.text; front = ends.front; statuses = tt }, λ writes. inl refl)
+
+pub returns-in-Err-clause-alone : goal.returns-in-Err-clause-alone
+returns-in-Err-clause-alone g c other named reads =
+    let same = c.in-Some.ensures.only other named in
+    let ends : EndsAlone other (g.K.Sink.taken c.args.sink.now) (g.K.Sink.taken c.run_command.new.sink) (Err c.in-Err.stop) =
+      subst (λ k. ¬ Reads k → EndsAlone k (g.K.Sink.taken c.args.sink.now) (g.K.Sink.taken c.run_command.new.sink) (Err c.in-Err.stop)) (sym same) c.in-Err.ensures.alone reads in
+    (
+      record {
+        text = λ is.
+          let told = status_tells c.tell.result (status_of c.in-Err.stop) status.Done _ _ _ c.tell.ensures.ends is (λ e. absurd cc) (λ e. absurd cc) in
+          absurd ((stop_status c.in-Err.stop).0 told.0);
+        front = ends.front;
+        statuses = text_status c.in-Err.stop c.tell.result _ _ _ ends.why c.tell.ensures.ends;
+      },
+      λ writes. inr (c.tell.ensures.silent (text_wants c.in-Err.stop ends.why (λ e. writes (c.in-Err.ensures.write_fault (ap Err e))))),
+    )
+
+pub returns-in-Err-clause-info : goal.returns-in-Err-clause-info
+returns-in-Err-clause-info g c named is =
+    let told = status_tells c.tell.result (status_of c.in-Err.stop) status.NoSuchFrame _ _ _ c.tell.ensures.ends is (λ e. absurd cc) (λ e. absurd cc) in
+    misses_none c.in-Err.stop (c.in-Err.ensures.info (sym (c.in-Some.ensures.only Info named))) told.0
