@@ -49,7 +49,7 @@ impl From<AllocError> for PrintFault {
 }
 
 // How many bytes of an image are looked at in one piece; no row has more.
-const PIECE: usize = 65536;
+const PIECE: usize = 65_536;
 
 /// Writes the lines of a frame, whose bytes are read in pieces. After a fault the sink took a front of them.
 pub fn write_frame<B: StateBytes, K: Sink>(
@@ -79,7 +79,7 @@ fn write_pictures<B: StateBytes, K: Sink>(
     sink: &mut K,
 ) -> Result<(), PrintFault>
     requires there { AllByRecursion (IsThere (B.bytes bytes.now)) frame.now.pictures.items }
-    requires room { length buffer.old ≡ 65536 }
+    requires room { length buffer.old ≡ PIECE }
     ensures ok { OnOk result (Appends (K.taken sink.old) (K.taken sink.new) (text_of (B.bytes bytes.now) listing frame.now)) }
     ensures front { AppendsPart (K.taken sink.old) (K.taken sink.new) (text_of (B.bytes bytes.now) listing frame.now) }
     ensures later { K.faults sink.old ≤ K.faults sink.new }
@@ -139,7 +139,7 @@ fn write_picture<B: StateBytes, K: Sink>(
     sink: &mut K,
 ) -> Result<(), PrintFault>
     requires there { IsThere (B.bytes bytes.now) picture.now }
-    requires room { length buffer.old ≡ 65536 }
+    requires room { length buffer.old ≡ PIECE }
     ensures ok { OnOk result (Appends (K.taken sink.old) (K.taken sink.new) (lines_of (B.bytes bytes.now) pixels title.now picture.now)) }
     ensures front { AppendsPart (K.taken sink.old) (K.taken sink.new) (lines_of (B.bytes bytes.now) pixels title.now picture.now) }
     ensures later { K.faults sink.old ≤ K.faults sink.new }
@@ -162,7 +162,7 @@ fn write_digest<B: StateBytes, K: Sink>(
     sink: &mut K,
 ) -> Result<(), PrintFault>
     requires there { IsThere (B.bytes bytes.now) picture.now }
-    requires room { length buffer.old ≡ 65536 }
+    requires room { length buffer.old ≡ PIECE }
     ensures ok { OnOk result (Appends (K.taken sink.old) (K.taken sink.new) (first_line (B.bytes bytes.now) title.now picture.now)) }
     ensures front { AppendsPart (K.taken sink.old) (K.taken sink.new) (first_line (B.bytes bytes.now) title.now picture.now) }
     ensures later { K.faults sink.old ≤ K.faults sink.new }

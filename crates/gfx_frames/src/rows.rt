@@ -7,6 +7,7 @@ ghost use Rattle.gfx_types.specs.Names.{texel_of};
 ghost use Rattle.gfx_model.specs.Text.{line, hex_text};
 ghost use Rattle.gfx_replay.specs.Shown.{IsThere};
 ghost use Rattle.gfx_frames.specs.Texts.{rows_of};
+ghost use Rattle.gfx_model.specs.Limits.{max_extent};
 
 use crate::lines::PrintFault;
 use gfx_device::StateBytes;
@@ -41,7 +42,7 @@ pub(crate) fn write_rows<B: StateBytes, K: Sink>(
 
 /// The bytes of a row of an image.
 pub(crate) fn row_bytes(picture: &ShownPicture) -> usize
-    requires { picture.now.width ≤ 4096 }
+    requires { picture.now.width ≤ max_extent }
     ensures { result ≡ picture.now.width * texel_of picture.now.format }
 {
     picture.width as usize * picture.format.texel() as usize

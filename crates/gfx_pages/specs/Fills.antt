@@ -1,4 +1,5 @@
 -- The fills of bytes: of each page that has a byte other than 0, the range from the first such byte to the last.
+use Rattle.gfx_pages.specs.declared.bytes.TheConstants.{PAGE}
 use Rattle.std.specs.Prelude.{◌≡◌, ℕ, ◌+◌, ◌-◌, ◌*◌, ◌/◌, ◌<◌, ◌≤◌, ◌==◌, List, [], ◌∷◌, Option, Some, None, All, filter, length, min, not, replicate, slice_index, slice_range}
 use Rattle.std.specs.List.{filter_map, range_with_len}
 use Rattle.gfx_pages.specs.declared.bytes.Span.{Span}
@@ -26,7 +27,7 @@ fills_of s f n = filter_map (page_fill s f n) (range_with_len 0 ((n + (s - 1)) /
 
 -- the fills of a list of bytes, in order
 unfoldable pub fills : List ℕ → List Span
-fills bytes = fills_of 65536 (slice_index bytes) (length bytes)
+fills bytes = fills_of PAGE (slice_index bytes) (length bytes)
 
 -- a list in which the bytes at these spans are those of another
 abbrev pub refilled : List ℕ → List Span → List ℕ → List ℕ

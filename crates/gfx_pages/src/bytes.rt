@@ -31,6 +31,7 @@ pub struct Bytes {
 }
 
 impl Model for Bytes {
+    ghost use Rattle.gfx_pages.specs.declared.bytes.TheConstants.{PAGE};
     ghost use Rattle.std.specs.Prelude.{List, ℕ};
     ghost use Rattle.std.specs.List.{flat_map};
     ghost use Rattle.gfx_pages.specs.Page.{page_bytes, WellPaged};
@@ -39,7 +40,7 @@ impl Model for Bytes {
 
     ghost view = { λ b. flat_map page_bytes b.pages.items };
 
-    ghost invariant = { λ b. WellPaged 65536 b.pages.items b.length };
+    ghost invariant = { λ b. WellPaged PAGE b.pages.items b.length };
 }
 
 impl Bytes {
@@ -121,8 +122,8 @@ impl Bytes {
 
     // The fill of one page.
     fn page_fill(&self, index: usize) -> Option<Span>
-        requires { 65536 * index < length self.now }
-        ensures { result ≡ page_fill 65536 (slice_index self.now) (length self.now) index }
+        requires { PAGE * index < length self.now }
+        ensures { result ≡ page_fill PAGE (slice_index self.now) (length self.now) index }
     {
         let _length = self.length();
         let used = self.pages[index].used()?;
@@ -134,7 +135,7 @@ impl Bytes {
     // Reads a part that lies in one page.
     fn read_part(&self, at: u64, into: &mut [u8])
         requires some { 0 < length into.old }
-        requires one_page { at % 65536 + length into.old ≤ 65536 }
+        requires one_page { at % PAGE + length into.old ≤ PAGE }
         requires inside { at + length into.old ≤ length self.now }
         ensures { into.new ≡ take (length into.old) (drop at self.now) }
     {
@@ -146,7 +147,7 @@ impl Bytes {
     // Writes a part that lies in one page.
     fn write_part(&mut self, at: u64, part: &[u8]) -> Result<(), WantMemory>
         requires some { 0 < length part.now }
-        requires one_page { at % 65536 + length part.now ≤ 65536 }
+        requires one_page { at % PAGE + length part.now ≤ PAGE }
         requires inside { at + length part.now ≤ length self.old }
         ensures ok { OnOk result (self.new ≡ paste self.old at part.now (length part.now)) }
         ensures err { OnErr result (self.new ≡ self.old) }
@@ -162,7 +163,7 @@ fn part_size(at: u64, left: u64) -> u64
     requires { 0 < left }
     ensures some { 0 < result }
     ensures within { result ≤ left }
-    ensures one_page { at % 65536 + result ≤ 65536 }
+    ensures one_page { at % PAGE + result ≤ PAGE }
 {
     left.min(PAGE - at % PAGE)
 }

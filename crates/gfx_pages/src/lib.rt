@@ -13,7 +13,6 @@ mod shared;
 pub use bytes::{Bytes, Span};
 pub use error::WantMemory;
 
-
 /// The fills of bytes lie within them and, written over zeros, give them back.
 pub fn fills_give_bytes()
     ensures { FillsGiveBytes }

@@ -14,6 +14,7 @@ use Rattle.gfx_model.specs.Frames as frames
 use Rattle.gfx_replay.specs.Held.{Bytes}
 use Rattle.gfx_replay.specs.declared.shown.ShownPicture.{ShownPicture}
 use Rattle.gfx_replay.specs.declared.shown.ShownFrame.{ShownFrame}
+use Rattle.gfx_model.specs.Limits.{max_extent}
 
 -- the image, with its bytes
 abbrev pub picture_of : Bytes → ShownPicture → Picture
@@ -25,8 +26,8 @@ frame_of b f = record { number = f.number; pictures = map (picture_of b) f.pictu
 
 -- the place of an image is there, and has its rows, tightly packed
 pub record IsThere (b : Bytes) (p : ShownPicture) : Type 0 where
-  pub wide : p.width ≤ 4096
-  pub high : p.height ≤ 4096
+  pub wide : p.width ≤ max_extent
+  pub high : p.height ≤ max_extent
   pub there : IsSomeAnd (b p.place) (λ bytes. length bytes ≡ p.height * (p.width * texel_of p.format))
 
 -- an image of a swapchain of these parameters

@@ -4,6 +4,7 @@ ghost use Rattle.gfx_model.specs.Views as view;
 ghost use Rattle.gfx_objects.specs.Object.{detail_of};
 ghost use Rattle.gfx_objects.specs.Objects.{answers};
 ghost use Rattle.gfx_state.specs.Ids.{children_in};
+ghost use Rattle.gfx_model.specs.Limits.{max_live_objects};
 
 use gfx_objects::{Detail, Objects};
 use gfx_types::{Ids, Kind, WantMemory};
@@ -27,7 +28,7 @@ pub(crate) fn children_of(
     parent: u64,
 ) -> Result<Vec<u64>, AllocError>
     ensures ids { IfOk result (λ ids. ids.items ≡ children_in (answers objects.now) kind parent) }
-    ensures few { IfOk result (λ ids. length ids.items ≤ 65536) }
+    ensures few { IfOk result (λ ids. length ids.items ≤ max_live_objects) }
 {
     let _live = objects.live();
     let mut ids = Vec::new(alloc);
@@ -95,7 +96,7 @@ pub(crate) fn fetched(
 ) -> Result<Vec<u64>, AllocError>
     requires { images ≡ view.images_in (answers objects.now) swapchain }
     ensures ids { IfOk result (λ ids. ids.items ≡ view.fetched (answers objects.now) swapchain) }
-    ensures few { IfOk result (λ ids. length ids.items ≤ 65536) }
+    ensures few { IfOk result (λ ids. length ids.items ≤ max_live_objects) }
 {
     let children = children_of(alloc, objects, Kind::Image, swapchain)?;
     let mut ids = Vec::new(alloc);

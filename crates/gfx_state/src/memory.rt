@@ -7,6 +7,7 @@ ghost use Rattle.gfx_objects.specs.Object.{range_of};
 ghost use Rattle.gfx_state.specs.Known.{bytes_in};
 ghost use Rattle.gfx_state.specs.Filled.{fill_event, fills_written};
 ghost use Rattle.gfx_state.specs.Written.{Wrote};
+ghost use Rattle.gfx_model.specs.Limits.{page_size};
 
 use crate::StateFault;
 use crate::piece::piece_of;
@@ -28,7 +29,7 @@ fn write_fill<B: StateBytes, K: Sink>(
     fill: Span,
 ) -> Result<(), StateFault>
     requires inside { IsSomeAnd (B.bytes bytes.now (place.Memory memory)) (λ all. fill.at + fill.length ≤ length all) }
-    requires short { fill.length ≤ 65536 }
+    requires short { fill.length ≤ page_size }
     ensures { Wrote (K.taken sink.old) (K.taken sink.new) (K.faults sink.old) (K.faults sink.new)
         (fill_event memory (bytes_in (B.bytes bytes.now) (place.Memory memory)) fill ∷ []) result }
 {

@@ -12,6 +12,7 @@ ghost use Rattle.gfx_commands.specs.Recordings.{buffers};
 ghost use Rattle.gfx_state.specs.Ids.{children_in};
 ghost use Rattle.gfx_state.specs.Pools.{CommandsFit, recorded_anew};
 ghost use Rattle.gfx_state.specs.Written.{Wrote};
+ghost use Rattle.gfx_model.specs.Limits.{max_live_objects, max_payload};
 
 use crate::StateFault;
 use crate::ids::{children_of, ids_of};
@@ -32,7 +33,7 @@ fn write_command<K: Sink>(
     params: &[u8],
 ) -> Result<(), StateFault>
     requires recorded { IsRecorded (record { call_id = call_id; params = params.now }) }
-    requires small { length (payload 1 0 (event_in (record { call_id = call_id; params = params.now }))) ≤ 2 ^ 27 }
+    requires small { length (payload 1 0 (event_in (record { call_id = call_id; params = params.now }))) ≤ max_payload }
     ensures { Wrote (K.taken sink.old) (K.taken sink.new) (K.faults sink.old) (K.faults sink.new) (event_in (record { call_id = call_id; params = params.now }) ∷ []) result }
 {
     match decode(alloc, 1, call_id, params) {
@@ -51,7 +52,7 @@ fn write_commands<K: Sink>(
     cb: u64,
 ) -> Result<(), StateFault>
     requires kept { is_kept (buffers recordings.now cb).state ≡ true }
-    requires small { AllByRecursion (λ c. length (payload 1 0 c) ≤ 2 ^ 27) (buffers recordings.now cb).commands }
+    requires small { AllByRecursion (λ c. length (payload 1 0 c) ≤ max_payload) (buffers recordings.now cb).commands }
     ensures { Wrote (K.taken sink.old) (K.taken sink.new) (K.faults sink.old) (K.faults sink.new) (buffers recordings.now cb).commands result }
 {
     let _totals = recordings.totals();
@@ -155,7 +156,7 @@ fn write_allocation<K: Sink>(
     pool: u64,
     cbs: &[u64],
 ) -> Result<(), StateFault>
-    requires { length cbs.now ≤ 65536 }
+    requires { length cbs.now ≤ max_live_objects }
     ensures { Wrote (K.taken sink.old) (K.taken sink.new) (K.faults sink.old) (K.faults sink.new) (section.allocate_event device pool cbs.now) result }
 {
     match cbs {

@@ -11,6 +11,7 @@ ghost use Rattle.gfx_objects.specs.Objects.{answers};
 ghost use Rattle.gfx_swap.specs.Acquired.{is_acquired};
 ghost use Rattle.gfx_state.specs.Images.{marks_in, picture, IsPicture};
 ghost use Rattle.gfx_state.specs.Written.{Wrote};
+ghost use Rattle.gfx_model.specs.Limits.{max_extent, max_live_objects};
 
 use crate::StateFault;
 use crate::ids::{fetched, ids_of};
@@ -70,7 +71,7 @@ fn write_fetch<K: Sink>(
     swapchain: u64,
     images: &[u64],
 ) -> Result<(), StateFault>
-    requires { length images.now ≤ 65536 }
+    requires { length images.now ≤ max_live_objects }
     ensures { Wrote (K.taken sink.old) (K.taken sink.new) (K.faults sink.old) (K.faults sink.new)
         (section.fetch_event device swapchain images.now) result }
 {
@@ -129,8 +130,8 @@ fn write_pictures<B: StateBytes, K: Sink>(
 
 // The bytes of an image.
 fn image_size(format: u32, width: u32, height: u32) -> u64
-    requires width { width ≤ 4096 }
-    requires height { height ≤ 4096 }
+    requires width { width ≤ max_extent }
+    requires height { height ≤ max_extent }
     ensures size { result ≡ asked.image_size format width height }
     ensures small { result ≤ 67108864 }
 {

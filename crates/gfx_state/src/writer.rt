@@ -4,6 +4,7 @@ ghost use Rattle.gfx_model.specs.Events.{event_of};
 ghost use Rattle.gfx_model.specs.Events.Event.{FillMemory, InitImage};
 ghost use Rattle.gfx_model.specs.Spelling.{HasSpelling, payload};
 ghost use Rattle.gfx_state.specs.Written.{Wrote};
+ghost use Rattle.gfx_model.specs.Limits.{max_payload};
 
 use crate::StateFault;
 use gfx_blocks::put_block;
@@ -17,7 +18,7 @@ pub(crate) fn write_effect<K: Sink>(
     effect: &Effect<'_>,
 ) -> Result<(), StateFault>
     requires spelled { HasSpelling 1 (event_of effect.now) }
-    requires small { length (payload 1 0 (event_of effect.now)) ≤ 2 ^ 27 }
+    requires small { length (payload 1 0 (event_of effect.now)) ≤ max_payload }
     ensures { Wrote (K.taken sink.old) (K.taken sink.new) (K.faults sink.old) (K.faults sink.new) (event_of effect.now ∷ []) result }
 {
     room.clear();

@@ -84,8 +84,8 @@ impl Bytes {
     // Copies a part that lies in one page, here and there.
     fn copy_part(&mut self, to: u64, other: &Bytes, from: u64, size: u64) -> Result<(), WantMemory>
         requires some { 0 < size }
-        requires one_page { to % 65536 + size ≤ 65536 }
-        requires one_page_there { from % 65536 + size ≤ 65536 }
+        requires one_page { to % PAGE + size ≤ PAGE }
+        requires one_page_there { from % PAGE + size ≤ PAGE }
         requires room { to + size ≤ length self.old }
         requires there { from + size ≤ length other.now }
         ensures ok { OnOk result (self.new ≡ paste self.old to (drop from other.now) size) }
@@ -106,8 +106,8 @@ impl Bytes {
     // Moves a part that lies in one page, before and after.
     fn move_part(&mut self, to: u64, from: u64, size: u64) -> Result<(), WantMemory>
         requires some { 0 < size }
-        requires one_page { to % 65536 + size ≤ 65536 }
-        requires one_page_there { from % 65536 + size ≤ 65536 }
+        requires one_page { to % PAGE + size ≤ PAGE }
+        requires one_page_there { from % PAGE + size ≤ PAGE }
         requires room { to + size ≤ length self.old }
         requires there { from + size ≤ length self.old }
         ensures ok { OnOk result (self.new ≡ paste self.old to (drop from self.old) size) }
@@ -122,9 +122,9 @@ impl Bytes {
 
     fn move_within_page(&mut self, to: u64, from: u64, size: u64) -> Result<(), WantMemory>
         requires some { 0 < size }
-        requires same_page { to / 65536 ≡ from / 65536 }
-        requires one_page { to % 65536 + size ≤ 65536 }
-        requires one_page_there { from % 65536 + size ≤ 65536 }
+        requires same_page { to / PAGE ≡ from / PAGE }
+        requires one_page { to % PAGE + size ≤ PAGE }
+        requires one_page_there { from % PAGE + size ≤ PAGE }
         requires room { to + size ≤ length self.old }
         requires there { from + size ≤ length self.old }
         ensures ok { OnOk result (self.new ≡ paste self.old to (drop from self.old) size) }
@@ -137,8 +137,8 @@ impl Bytes {
 
     fn move_between_pages(&mut self, to: u64, from: u64, size: u64) -> Result<(), WantMemory>
         requires some { 0 < size }
-        requires one_page { to % 65536 + size ≤ 65536 }
-        requires one_page_there { from % 65536 + size ≤ 65536 }
+        requires one_page { to % PAGE + size ≤ PAGE }
+        requires one_page_there { from % PAGE + size ≤ PAGE }
         requires room { to + size ≤ length self.old }
         requires there { from + size ≤ length self.old }
         ensures ok { OnOk result (self.new ≡ paste self.old to (drop from self.old) size) }
@@ -163,7 +163,7 @@ fn part_size_before(end: u64, left: u64) -> u64
     requires there { left ≤ end }
     ensures some { 0 < result }
     ensures within { result ≤ left }
-    ensures one_page { result ≤ (end - 1) % 65536 + 1 }
+    ensures one_page { result ≤ (end - 1) % PAGE + 1 }
 {
     left.min((end - 1) % PAGE + 1)
 }

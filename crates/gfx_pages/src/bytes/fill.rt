@@ -52,7 +52,7 @@ impl Bytes {
     // Puts zeros into a part that lies in one page.
     fn clear_part(&mut self, at: u64, size: u64) -> Result<(), WantMemory>
         requires some { 0 < size }
-        requires one_page { at % 65536 + size ≤ 65536 }
+        requires one_page { at % PAGE + size ≤ PAGE }
         requires inside { at + size ≤ length self.old }
         ensures ok { OnOk result (self.new ≡ paste self.old at (replicate size 0) size) }
         ensures err { OnErr result (self.new ≡ self.old) }
