@@ -2,22 +2,26 @@
 ghost use Rattle.std.specs.Prelude.{◌≡◌, ◌+◌, ◌≤◌, length};
 ghost use Rattle.gfx_model.specs.Blocks as blocks;
 
-/// The number in the four bytes from a place on.
+use gfx_io::{take_u32, take_u64};
+
+/// The number in the four bytes from a place on, which are there.
 pub fn u32_at(bytes: &[u8], at: usize) -> u32
     requires { at + 4 ≤ length bytes.now }
     ensures { result ≡ blocks.u32_at bytes.now at }
 {
-    let part = &bytes[at..at + 4];
-    u32::from_le_bytes([part[0], part[1], part[2], part[3]])
+    match take_u32(bytes, at) {
+        Some(number) => number,
+        None => unreachable!(),
+    }
 }
 
-/// The number in the eight bytes from a place on.
+/// The number in the eight bytes from a place on, which are there.
 pub fn u64_at(bytes: &[u8], at: usize) -> u64
     requires { at + 8 ≤ length bytes.now }
     ensures { result ≡ blocks.u64_at bytes.now at }
 {
-    let part = &bytes[at..at + 8];
-    u64::from_le_bytes([
-        part[0], part[1], part[2], part[3], part[4], part[5], part[6], part[7],
-    ])
+    match take_u64(bytes, at) {
+        Some(number) => number,
+        None => unreachable!(),
+    }
 }

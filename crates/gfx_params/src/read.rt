@@ -5,6 +5,7 @@ ghost use Rattle.gfx_grammar.specs.Reading.{Reader, read_number, read_raw, ◌�
 ghost use Rattle.gfx_params.specs.Gives.{GivesWhole, StandsBehind};
 
 use crate::ParamFault;
+use gfx_io::{take_u32, take_u64};
 use std::alloc::{AllocError, Global};
 
 /// A field of a payload, or several in order.
@@ -46,12 +47,8 @@ pub fn read_whole<'a, T: ReadFields<'a>>(alloc: Global, bytes: &'a [u8]) -> Resu
 pub fn front_u32(bytes: &[u8]) -> Option<(u32, &[u8])>
     ensures { MatchOption result (read_number w32 bytes.now ≡ None) (λ read. read_number w32 bytes.now ≡ Some (read.0, read.1.now)) }
 {
-    if bytes.len() < 4 {
-        return None;
-    }
-    let (front, rest) = bytes.split_at(4);
-    let number = u32::from_le_bytes([front[0], front[1], front[2], front[3]]);
-    Some((number, rest))
+    let number = take_u32(bytes, 0)?;
+    Some((number, &bytes[4..]))
 }
 
 /// The number in the first eight bytes, and what stands behind them.
@@ -59,14 +56,8 @@ pub fn front_u32(bytes: &[u8]) -> Option<(u32, &[u8])>
 pub fn front_u64(bytes: &[u8]) -> Option<(u64, &[u8])>
     ensures { MatchOption result (read_number w64 bytes.now ≡ None) (λ read. read_number w64 bytes.now ≡ Some (read.0, read.1.now)) }
 {
-    if bytes.len() < 8 {
-        return None;
-    }
-    let (front, rest) = bytes.split_at(8);
-    let number = u64::from_le_bytes([
-        front[0], front[1], front[2], front[3], front[4], front[5], front[6], front[7],
-    ]);
-    Some((number, rest))
+    let number = take_u64(bytes, 0)?;
+    Some((number, &bytes[8..]))
 }
 
 impl<'a> ReadFields<'a> for u32 {

@@ -3,6 +3,7 @@ ghost use Rattle.std.specs.Prelude.{◌≡◌, ◌<◌, ◌+◌, ◌^◌, ℕ, L
 ghost use Rattle.gfx_model.specs.Spelling.{Field, id, u32 as number, raw, list_of, id_fields, word_fields, barrier_fields, buffer_region_fields, image_region_fields, mixed_region_fields, submit_fields, present_fields};
 ghost use Rattle.gfx_grammar.specs.Reads.{Fits, text_of};
 
+use gfx_io::{put_u32, put_u64};
 use std::alloc::AllocError;
 
 /// A field of a payload, or several in order, as a value or behind a reference.
@@ -26,7 +27,7 @@ impl WriteFields for u32 {
     ghost fields = { λ n. number n ∷ [] };
 
     fn write(&self, out: &mut Vec<u8>) -> Result<(), AllocError> {
-        out.extend_from_slice(&self.to_le_bytes())
+        put_u32(out, *self).map_err(|_| AllocError)
     }
 
     fn length(&self) -> u64 {
@@ -38,7 +39,7 @@ impl WriteFields for u64 {
     ghost fields = { λ n. id n ∷ [] };
 
     fn write(&self, out: &mut Vec<u8>) -> Result<(), AllocError> {
-        out.extend_from_slice(&self.to_le_bytes())
+        put_u64(out, *self).map_err(|_| AllocError)
     }
 
     fn length(&self) -> u64 {
