@@ -7,6 +7,7 @@ use Rattle.gfx_types.specs.declared.names.Fault.TheVariants.{UnknownBlock, BadPa
 use Rattle.gfx_model.specs.Events.{Event}
 use Rattle.gfx_model.specs.Events.Event.{BeginSection, EndSection}
 use Rattle.gfx_model.specs.Blocks.{Content, skipped, effect, is_skipped, u32_at}
+use Rattle.gfx_model.specs.Spelling.{call_count, metadata_count}
 use Rattle.gfx_grammar.specs.Reading.{◌>>=◌, read_number}
 use Rattle.gfx_grammar.specs.Rows.{with1, by_row, read_event, read_content, read_payload}
 use Rattle.gfx_grammar.specs.Splitting.{payload_fault}
@@ -106,24 +107,24 @@ there_with (Some x) to made into some none = let is : to ≡ Some (made x) = int
 
 -- ---- calls
 
-pub known_call : (m : ℕ) (bytes behind : List ℕ) (id : ℕ) → read_number w32 bytes ≡ Some (id, behind) → (nat_le 1 id && nat_le id 48) ≡ true → payload_fault 4 bytes ≡ BadParams
+pub known_call : (m : ℕ) (bytes behind : List ℕ) (id : ℕ) → read_number w32 bytes ≡ Some (id, behind) → (nat_le 1 id && nat_le id call_count) ≡ true → payload_fault 4 bytes ≡ BadParams
 known_call m bytes behind id front known =
     let at = front_is bytes behind id front in
     rw (at.0, at.1, known) refl
 
-pub unknown_call : (m : ℕ) (bytes behind : List ℕ) (id : ℕ) → read_number w32 bytes ≡ Some (id, behind) → (nat_le 1 id && nat_le id 48) ≡ false → SaysNothing m 4 bytes UnknownBlock
+pub unknown_call : (m : ℕ) (bytes behind : List ℕ) (id : ℕ) → read_number w32 bytes ≡ Some (id, behind) → (nat_le 1 id && nat_le id call_count) ≡ false → SaysNothing m 4 bytes UnknownBlock
 unknown_call m bytes behind id front unknown =
     let at = front_is bytes behind id front in (
       reads m 4 bytes behind id refl refl front ∙ no_event m 4 id (read_number w64 behind) (λ t fields is. others_are_not_read m 4 id fields (rw unknown refl)),
       rw (at.0, at.1, unknown) refl,
     )
 
-pub call_without_thread : (m : ℕ) (bytes behind : List ℕ) (id : ℕ) → read_number w32 bytes ≡ Some (id, behind) → (nat_le 1 id && nat_le id 48) ≡ true → read_number w64 behind ≡ None
+pub call_without_thread : (m : ℕ) (bytes behind : List ℕ) (id : ℕ) → read_number w32 bytes ≡ Some (id, behind) → (nat_le 1 id && nat_le id call_count) ≡ true → read_number w64 behind ≡ None
     → SaysNothing m 4 bytes BadParams
 call_without_thread m bytes behind id front known none =
     (reads m 4 bytes behind id refl refl front ∙ no_thread m 4 id behind none, sym (known_call m bytes behind id front known))
 
-pub call_refused : (m : ℕ) (bytes behind fields : List ℕ) (id t : ℕ) → read_number w32 bytes ≡ Some (id, behind) → (nat_le 1 id && nat_le id 48) ≡ true → read_number w64 behind ≡ Some (t, fields)
+pub call_refused : (m : ℕ) (bytes behind fields : List ℕ) (id t : ℕ) → read_number w32 bytes ≡ Some (id, behind) → (nat_le 1 id && nat_le id call_count) ≡ true → read_number w64 behind ≡ Some (t, fields)
     → read_event m 4 id fields ≡ None → SaysNothing m 4 bytes BadParams
 call_refused m bytes behind fields id t front known thread none =
     (reads m 4 bytes behind id refl refl front ∙ bad_fields m 4 id t behind fields thread none, sym (known_call m bytes behind id front known))
@@ -146,18 +147,18 @@ unfolding read_content
 message_said m bytes behind id front is =
     let at = front_is bytes behind id front in rw (at.0, at.1, is) refl
 
-pub known_meta : (bytes behind : List ℕ) (id : ℕ) → read_number w32 bytes ≡ Some (id, behind) → (nat_le 1 id && nat_le id 5) ≡ true → payload_fault 3 bytes ≡ BadParams
+pub known_meta : (bytes behind : List ℕ) (id : ℕ) → read_number w32 bytes ≡ Some (id, behind) → (nat_le 1 id && nat_le id metadata_count) ≡ true → payload_fault 3 bytes ≡ BadParams
 known_meta bytes behind id front known =
     let at = front_is bytes behind id front in
     rw (at.0, at.1, known) refl
 
-no_row : (id : ℕ) → id ≢ 1 → (nat_le 1 id && nat_le id 5) ≡ false → (nat_le 2 id && nat_le id 5) ≡ false
+no_row : (id : ℕ) → id ≢ 1 → (nat_le 1 id && nat_le id metadata_count) ≡ false → (nat_le 2 id && nat_le id metadata_count) ≡ false
 no_row id other unknown = grind (arith, nat_tests)
 
-pub unknown_meta : (m : ℕ) (bytes behind : List ℕ) (id : ℕ) → read_number w32 bytes ≡ Some (id, behind) → id ≢ 1 → (nat_le 1 id && nat_le id 5) ≡ false → SaysNothing m 3 bytes UnknownBlock
+pub unknown_meta : (m : ℕ) (bytes behind : List ℕ) (id : ℕ) → read_number w32 bytes ≡ Some (id, behind) → id ≢ 1 → (nat_le 1 id && nat_le id metadata_count) ≡ false → SaysNothing m 3 bytes UnknownBlock
 unknown_meta m bytes behind id front other unknown =
     let at = front_is bytes behind id front in
-    let none : (nat_le 2 id && nat_le id 5) ≡ false = no_row id other unknown in (
+    let none : (nat_le 2 id && nat_le id metadata_count) ≡ false = no_row id other unknown in (
       reads m 3 bytes behind id refl (meta_kept bytes behind id front other) front
           ∙ no_event m 3 id (read_number w64 behind) (λ t fields is. others_are_not_read m 3 id fields (rw none refl)),
       rw (at.0, at.1, unknown) refl,
@@ -168,12 +169,12 @@ pub read_meta-version : (m n id : ℕ) (fields : List ℕ) → read_event m 3 id
 unfolding read_event
 read_meta-version m n id fields = refl
 
-pub meta_without_thread : (m : ℕ) (bytes behind : List ℕ) (id : ℕ) → read_number w32 bytes ≡ Some (id, behind) → id ≢ 1 → (nat_le 1 id && nat_le id 5) ≡ true → read_number w64 behind ≡ None
+pub meta_without_thread : (m : ℕ) (bytes behind : List ℕ) (id : ℕ) → read_number w32 bytes ≡ Some (id, behind) → id ≢ 1 → (nat_le 1 id && nat_le id metadata_count) ≡ true → read_number w64 behind ≡ None
     → SaysNothing m 3 bytes BadParams
 meta_without_thread m bytes behind id front other known none =
     (reads m 3 bytes behind id refl (meta_kept bytes behind id front other) front ∙ no_thread m 3 id behind none, sym (known_meta bytes behind id front known))
 
-pub meta_refused : (m : ℕ) (bytes behind fields : List ℕ) (id t : ℕ) → read_number w32 bytes ≡ Some (id, behind) → id ≢ 1 → (nat_le 1 id && nat_le id 5) ≡ true → read_number w64 behind ≡ Some (t, fields)
+pub meta_refused : (m : ℕ) (bytes behind fields : List ℕ) (id t : ℕ) → read_number w32 bytes ≡ Some (id, behind) → id ≢ 1 → (nat_le 1 id && nat_le id metadata_count) ≡ true → read_number w64 behind ≡ Some (t, fields)
     → read_event m 3 id fields ≡ None → SaysNothing m 3 bytes BadParams
 meta_refused m bytes behind fields id t front other known thread none =
     (reads m 3 bytes behind id refl (meta_kept bytes behind id front other) front ∙ bad_fields m 3 id t behind fields thread none, sym (known_meta bytes behind id front known))

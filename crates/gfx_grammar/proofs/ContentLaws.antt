@@ -5,8 +5,8 @@ use Rattle.std.proofs.lemmas.Bool.Decides.{nat_tests}
 use Rattle.std.proofs.lemmas.Bool.{cond-false, cond-true, eqb-true, eqb-false}
 use Rattle.std.proofs.lemmas.List.{take_at}
 use Rattle.gfx_model.specs.Events.{Event}
-use Rattle.gfx_model.specs.Events.Event.{CreateInstance, DestroyInstance, CreateHeadlessSurfaceEXT, DestroySurfaceKHR, CreateDevice, DestroyDevice, GetDeviceQueue, AllocateMemory, FreeMemory, MapMemory, UnmapMemory, CreateBuffer, DestroyBuffer, BindBufferMemory, CreateImage, DestroyImage, BindImageMemory, CreateCommandPool, DestroyCommandPool, ResetCommandPool, AllocateCommandBuffers, FreeCommandBuffers, BeginCommandBuffer, EndCommandBuffer, ResetCommandBuffer, CmdPipelineBarrier, CmdFillBuffer, CmdUpdateBuffer, CmdCopyBuffer, CmdCopyImage, CmdCopyBufferToImage, CmdCopyImageToBuffer, CmdClearColorImage, CreateFence, DestroyFence, ResetFences, WaitForFences, GetFenceStatus, CreateSemaphore, DestroySemaphore, QueueSubmit, QueueWaitIdle, DeviceWaitIdle, CreateSwapchainKHR, DestroySwapchainKHR, GetSwapchainImagesKHR, AcquireNextImageKHR, QueuePresentKHR, FillMemory, InitImage, SetSwapchainState, SetSemaphoreState, BeginSection, EndSection}
-use Rattle.gfx_model.specs.Spelling.{spelling, id_of, type_of, payload}
+use Rattle.gfx_model.specs.Events.Event.{CreateInstance}
+use Rattle.gfx_model.specs.Spelling.{call_count, metadata_count, spelling, id_of, type_of, payload}
 use Rattle.gfx_model.specs.Blocks.{u32_at, Content, skipped, effect, is_skipped, is_unknown, IsThread, SpellsPayload, IsContent}
 use Rattle.gfx_grammar.specs.Reading.{◌>>=◌, read_u32}
 use Rattle.gfx_grammar.specs.Rows.{read_event, read_thread, read_payload, read_content}
@@ -71,64 +71,12 @@ read_is_content m kind bytes c h eq =
 
 -- the numbers of a type of block
 abbrev pub is_known : ℕ → ℕ → Bool
-is_known kind n = nat_eq kind 2 || (nat_eq kind 3 && nat_le 2 n && nat_le n 5) || (nat_eq kind 4 && nat_le 1 n && nat_le n 48)
+is_known kind n = nat_eq kind 2 || (nat_eq kind 3 && nat_le 2 n && nat_le n metadata_count) || (nat_eq kind 4 && nat_le 1 n && nat_le n call_count)
 
 pub event_known : (e : Event) → (is_known (type_of e) (id_of e) ≡ true) × (id_of e < 2 ^ 32)
 unfolding type_of id_of
 event_known (CreateInstance a b) = (refl, omega arith)
-event_known (DestroyInstance a) = (refl, omega arith)
-event_known (CreateHeadlessSurfaceEXT a b) = (refl, omega arith)
-event_known (DestroySurfaceKHR a b) = (refl, omega arith)
-event_known (CreateDevice a b) = (refl, omega arith)
-event_known (DestroyDevice a) = (refl, omega arith)
-event_known (GetDeviceQueue a b) = (refl, omega arith)
-event_known (AllocateMemory a b c) = (refl, omega arith)
-event_known (FreeMemory a b) = (refl, omega arith)
-event_known (MapMemory a b c d) = (refl, omega arith)
-event_known (UnmapMemory a b) = (refl, omega arith)
-event_known (CreateBuffer a b c d) = (refl, omega arith)
-event_known (DestroyBuffer a b) = (refl, omega arith)
-event_known (BindBufferMemory a b c d) = (refl, omega arith)
-event_known (CreateImage a b c d e f) = (refl, omega arith)
-event_known (DestroyImage a b) = (refl, omega arith)
-event_known (BindImageMemory a b c d) = (refl, omega arith)
-event_known (CreateCommandPool a b c) = (refl, omega arith)
-event_known (DestroyCommandPool a b) = (refl, omega arith)
-event_known (ResetCommandPool a b) = (refl, omega arith)
-event_known (AllocateCommandBuffers a b c) = (refl, omega arith)
-event_known (FreeCommandBuffers a b c) = (refl, omega arith)
-event_known (BeginCommandBuffer a b) = (refl, omega arith)
-event_known (EndCommandBuffer a) = (refl, omega arith)
-event_known (ResetCommandBuffer a) = (refl, omega arith)
-event_known (CmdPipelineBarrier a b) = (refl, omega arith)
-event_known (CmdFillBuffer a b c d e) = (refl, omega arith)
-event_known (CmdUpdateBuffer a b c d) = (refl, omega arith)
-event_known (CmdCopyBuffer a b c d) = (refl, omega arith)
-event_known (CmdCopyImage a b c d e f) = (refl, omega arith)
-event_known (CmdCopyBufferToImage a b c d e) = (refl, omega arith)
-event_known (CmdCopyImageToBuffer a b c d e) = (refl, omega arith)
-event_known (CmdClearColorImage a b c d e f g) = (refl, omega arith)
-event_known (CreateFence a b c) = (refl, omega arith)
-event_known (DestroyFence a b) = (refl, omega arith)
-event_known (ResetFences a b) = (refl, omega arith)
-event_known (WaitForFences a b c d) = (refl, omega arith)
-event_known (GetFenceStatus a b c) = (refl, omega arith)
-event_known (CreateSemaphore a b) = (refl, omega arith)
-event_known (DestroySemaphore a b) = (refl, omega arith)
-event_known (QueueSubmit a b c) = (refl, omega arith)
-event_known (QueueWaitIdle a) = (refl, omega arith)
-event_known (DeviceWaitIdle a) = (refl, omega arith)
-event_known (CreateSwapchainKHR a b c d e f g h) = (refl, omega arith)
-event_known (DestroySwapchainKHR a b) = (refl, omega arith)
-event_known (GetSwapchainImagesKHR a b c) = (refl, omega arith)
-event_known (AcquireNextImageKHR a b c d e f) = (refl, omega arith)
-event_known (QueuePresentKHR a b c) = (refl, omega arith)
-event_known (FillMemory a b c) = (refl, omega arith)
-event_known (InitImage a b c) = (refl, omega arith)
-event_known (SetSwapchainState a b) = (refl, omega arith)
-event_known (SetSemaphoreState a b) = (refl, omega arith)
-event_known (BeginSection a) = (refl, omega arith)
-event_known (EndSection a) = (refl, omega arith)
+event_known _ = (refl, omega arith)
 
 -- the number at the front of a payload
 pub payload_number : (m t : ℕ) (e : Event) (bytes : List ℕ) → bytes ≡ payload m t e → u32_at bytes 0 ≡ id_of e
@@ -145,7 +93,7 @@ not_skipped : (kind n : ℕ) (b : Bool) → is_known kind n ≡ true → (nat_eq
 not_skipped kind n b known = grind (arith, nat_tests)
 
 not_unknown : (kind n : ℕ) (b : Bool) → is_known kind n ≡ true
-    → (b && (nat_eq kind 4 && not (nat_le 1 n && nat_le n 48) || nat_eq kind 3 && not (nat_le 1 n && nat_le n 5))) ≡ false
+    → (b && (nat_eq kind 4 && not (nat_le 1 n && nat_le n call_count) || nat_eq kind 3 && not (nat_le 1 n && nat_le n metadata_count))) ≡ false
 not_unknown kind n b known = grind (arith, nat_tests)
 
 effect_known : (m kind : ℕ) (bytes : List ℕ) (t : ℕ) (e : Event) → SpellsPayload m kind bytes t e → is_known kind (u32_at bytes 0) ≡ true
@@ -175,7 +123,7 @@ content_is_read m kind bytes (effect t e) s =
     ∙ payload_again m kind bytes t e s
 
 skipped_is_known : (kind n : ℕ) (b : Bool) → (nat_eq kind 1 || nat_eq kind 5 || nat_eq kind 3 && b && nat_eq n 1) ≡ true
-    → (b && (nat_eq kind 4 && not (nat_le 1 n && nat_le n 48) || nat_eq kind 3 && not (nat_le 1 n && nat_le n 5))) ≡ false
+    → (b && (nat_eq kind 4 && not (nat_le 1 n && nat_le n call_count) || nat_eq kind 3 && not (nat_le 1 n && nat_le n metadata_count))) ≡ false
 skipped_is_known kind n b known = grind (arith, nat_tests)
 
 -- what has content is known

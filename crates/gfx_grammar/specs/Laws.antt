@@ -5,7 +5,7 @@ use Rattle.gfx_types.specs.declared.names.Fault.{Fault}
 use Rattle.gfx_types.specs.declared.names.Fault.TheVariants.{Truncated}
 use Rattle.gfx_model.specs.Events.{Event}
 use Rattle.gfx_model.specs.Events.Event.{BeginSection, EndSection}
-use Rattle.gfx_model.specs.Spelling.{header, Spells, id_of, type_of}
+use Rattle.gfx_model.specs.Spelling.{header, Spells, call_count, metadata_count, id_of, type_of}
 use Rattle.gfx_model.specs.Blocks.{header_fault, refuse, option_count, options_fault, side_count, minor_of, first_position, Whole, clean, next_position, size_field, Content, IsContent, End, AreBlocks, Position, EndsHere, IsFront}
 use Rattle.gfx_model.specs.Limits.{max_side_blocks}
 use Rattle.gfx_model.specs.Trimmed.{file_of}
@@ -61,7 +61,7 @@ SplitsInOneWay = (m : ℕ) (at : Position) (bytes : List ℕ)
 -- the table of this type of block has a row of this number
 abbrev pub has_row : ℕ → ℕ → Bool
 has_row kind n =
-    kind == 4 && nat_le 1 n && nat_le n 48 || kind == 3 && nat_le 2 n && nat_le n 5 || kind == 2 && nat_le 1 n && nat_le n 2
+    kind == 4 && nat_le 1 n && nat_le n call_count || kind == 3 && nat_le 2 n && nat_le n metadata_count || kind == 2 && nat_le 1 n && nat_le n 2
 
 -- nothing is read where there is no row
 abbrev pub OthersAreNotRead : Type 0

@@ -1,6 +1,12 @@
 //! The fields of each call and metadata, in their order in a payload. What reads, writes, measures or takes fields is
 //! made of this one table; the types of the fields are those of `Call` and `Meta`.
 
+/// How many calls there are, numbered from 1.
+pub const CALL_COUNT: u32 = 48;
+
+/// How many metadata there are, numbered from 1; the first of them is a message, which is skipped.
+pub const METADATA_COUNT: u32 = 5;
+
 /// Hands the calls to another macro, in sections of rows: an id, a name, the name of the functions that take its
 /// fields, and the fields with their marks. A field `names` an id, `makes` one, or `maybe` names one where it isn't 0;
 /// it is a number of eight bytes (`wide`) or of four (`short`), bytes (`raw`), or a list of ids (`names_each`,
