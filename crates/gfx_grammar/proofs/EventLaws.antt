@@ -6,7 +6,6 @@ use Rattle.std.proofs.lemmas.Bool.{cond-false, cond-true, eqb-true}
 use Rattle.std.proofs.lemmas.List.{append-nil}
 use Rattle.gfx_types.specs.declared.lists.Present.{Present}
 use Rattle.gfx_model.specs.Events.{Event}
-use Rattle.gfx_model.specs.Events.Event.{CreateInstance, DestroyInstance, CreateHeadlessSurfaceEXT, DestroySurfaceKHR, CreateDevice, DestroyDevice, GetDeviceQueue, AllocateMemory, FreeMemory, MapMemory, UnmapMemory, CreateBuffer, DestroyBuffer, BindBufferMemory, CreateImage, DestroyImage, BindImageMemory, CreateCommandPool, DestroyCommandPool, ResetCommandPool, AllocateCommandBuffers, FreeCommandBuffers, BeginCommandBuffer, EndCommandBuffer, ResetCommandBuffer, CmdPipelineBarrier, CmdFillBuffer, CmdUpdateBuffer, CmdCopyBuffer, CmdCopyImage, CmdCopyBufferToImage, CmdCopyImageToBuffer, CmdClearColorImage, CreateFence, DestroyFence, ResetFences, WaitForFences, GetFenceStatus, CreateSemaphore, DestroySemaphore, QueueSubmit, QueueWaitIdle, DeviceWaitIdle, CreateSwapchainKHR, DestroySwapchainKHR, GetSwapchainImagesKHR, AcquireNextImageKHR, QueuePresentKHR, FillMemory, InitImage, SetSwapchainState, SetSemaphoreState, BeginSection, EndSection}
 use Rattle.gfx_model.specs.Spelling.{Field, id_fields, list_of, present_fields, IsOfVersion, Spells, spelling, fields_of, id_of, type_of}
 use Rattle.gfx_grammar.specs.Reading.{◌>>=◌, Reader, ◌⊗◌, read_id, read_ids, read_present}
 use Rattle.gfx_grammar.specs.Rows.{if_none_left, exactly, with1, with2, with3, with4, with5, with6, with7, with8, with_one_present, present_row, Rows, by_row, calls, metas, markers, rows_of, read_event}
@@ -83,7 +82,7 @@ present_one : (m : ℕ) → nat_eq m 1 ≡ true → (x : ℕ × (List ℕ × Pre
 unfolding fields_of
 present_one m one x = rw one refl
 
-present_many : (m : ℕ) → nat_eq m 1 ≡ false → (x : ℕ × (List ℕ × List Present)) → fields_of m (with3 QueuePresentKHR x) ≡ fields_many x
+present_many : (m : ℕ) → nat_eq m 1 ≡ false → (x : ℕ × (List ℕ × List Present)) → fields_of m (with3 Event.QueuePresentKHR x) ≡ fields_many x
 unfolding fields_of
 present_many m many x = rw many refl
 
@@ -95,11 +94,11 @@ unfolding present_row id_of type_of
 present_takes m bytes e h eq =
     elim (chosen (nat_eq m 1) _ _ _ eq) [
       | inl one ↦ row_takes m 4 48 with_one_present _ fields_one (reads_id ⊠ reads_ids ⊠ reads_present) (λ x. (present_one m one.0 x, λ is. refl, refl, refl)) bytes e h one.1
-      | inr many ↦ row_takes m 4 48 (with3 QueuePresentKHR) _ fields_many (reads_id ⊠ reads_ids ⊠ reads_list reads_present) (λ x. (present_many m many.0 x, λ is. absurd (not_one m many.0 is), refl, refl)) bytes e h many.1
+      | inr many ↦ row_takes m 4 48 (with3 Event.QueuePresentKHR) _ fields_many (reads_id ⊠ reads_ids ⊠ reads_list reads_present) (λ x. (present_many m many.0 x, λ is. absurd (not_one m many.0 is), refl, refl)) bytes e h many.1
     ]
 
-present_again_one : (m : ℕ) → nat_eq m 1 ≡ true → (queue : ℕ) (waits : List ℕ) (presents : List Present) → length presents ≡ 1 → (bytes : List ℕ) → Spells m (QueuePresentKHR queue waits presents) bytes
-    → exactly with_one_present (read_id ⊗ read_ids ⊗ read_present) bytes ≡ Some (QueuePresentKHR queue waits presents)
+present_again_one : (m : ℕ) → nat_eq m 1 ≡ true → (queue : ℕ) (waits : List ℕ) (presents : List Present) → length presents ≡ 1 → (bytes : List ℕ) → Spells m (Event.QueuePresentKHR queue waits presents) bytes
+    → exactly with_one_present (read_id ⊗ read_ids ⊗ read_present) bytes ≡ Some (Event.QueuePresentKHR queue waits presents)
 present_again_one m one queue waits [] long bytes s = absurd (omega (arith, long))
 present_again_one m one queue waits (p ∷ []) long bytes s = row_again m with_one_present _ fields_one (reads_id ⊠ reads_ids ⊠ reads_present) (present_one m one) (queue, (waits, p)) bytes s
 present_again_one m one queue waits (p ∷ q ∷ ps) long bytes s = absurd (omega (arith, long))
@@ -108,13 +107,13 @@ either : (b : Bool) → (b ≡ true) ⊎ (b ≡ false)
 either true = inl refl
 either false = inr refl
 
-present_again : (m queue : ℕ) (waits : List ℕ) (presents : List Present) (bytes : List ℕ) → Spells m (QueuePresentKHR queue waits presents) bytes
-    → present_row m bytes ≡ Some (QueuePresentKHR queue waits presents)
+present_again : (m queue : ℕ) (waits : List ℕ) (presents : List Present) (bytes : List ℕ) → Spells m (Event.QueuePresentKHR queue waits presents) bytes
+    → present_row m bytes ≡ Some (Event.QueuePresentKHR queue waits presents)
 unfolding present_row
 present_again m queue waits presents bytes s =
     elim (either (nat_eq m 1)) [
       | inl one ↦ cond-true (nat_eq m 1) _ _ one ∙ present_again_one m one queue waits presents (s.fits.version (eqb-true m 1 one)) bytes s
-      | inr many ↦ cond-false (nat_eq m 1) _ _ many ∙ row_again m (with3 QueuePresentKHR) _ fields_many (reads_id ⊠ reads_ids ⊠ reads_list reads_present) (present_many m many) (queue, (waits, presents)) bytes s
+      | inr many ↦ cond-false (nat_eq m 1) _ _ many ∙ row_again m (with3 Event.QueuePresentKHR) _ fields_many (reads_id ⊠ reads_ids ⊠ reads_list reads_present) (present_many m many) (queue, (waits, presents)) bytes s
     ]
 
 -- ---- the tables
@@ -220,57 +219,57 @@ read_is_spelled m kind n bytes e h eq =
 
 pub spelled_is_read : SpelledIsRead
 unfolding read_event by_row fields_of id_of type_of
-spelled_is_read m bytes (CreateInstance a b) s = row_again m (with2 CreateInstance) _ _ (reads_id ⊠ reads_u32) (λ x. refl) (a, b) bytes s
-spelled_is_read m bytes (DestroyInstance a) s = row_again m (with1 DestroyInstance) _ _ reads_id (λ x. refl) a bytes s
-spelled_is_read m bytes (CreateHeadlessSurfaceEXT a b) s = row_again m (with2 CreateHeadlessSurfaceEXT) _ _ (reads_id ⊠ reads_id) (λ x. refl) (a, b) bytes s
-spelled_is_read m bytes (DestroySurfaceKHR a b) s = row_again m (with2 DestroySurfaceKHR) _ _ (reads_id ⊠ reads_id) (λ x. refl) (a, b) bytes s
-spelled_is_read m bytes (CreateDevice a b) s = row_again m (with2 CreateDevice) _ _ (reads_id ⊠ reads_id) (λ x. refl) (a, b) bytes s
-spelled_is_read m bytes (DestroyDevice a) s = row_again m (with1 DestroyDevice) _ _ reads_id (λ x. refl) a bytes s
-spelled_is_read m bytes (GetDeviceQueue a b) s = row_again m (with2 GetDeviceQueue) _ _ (reads_id ⊠ reads_id) (λ x. refl) (a, b) bytes s
-spelled_is_read m bytes (AllocateMemory a b c) s = row_again m (with3 AllocateMemory) _ _ (reads_id ⊠ reads_id ⊠ reads_u64) (λ x. refl) (a, (b, c)) bytes s
-spelled_is_read m bytes (FreeMemory a b) s = row_again m (with2 FreeMemory) _ _ (reads_id ⊠ reads_id) (λ x. refl) (a, b) bytes s
-spelled_is_read m bytes (MapMemory a b c d) s = row_again m (with4 MapMemory) _ _ (reads_id ⊠ reads_id ⊠ reads_u64 ⊠ reads_u64) (λ x. refl) (a, (b, (c, d))) bytes s
-spelled_is_read m bytes (UnmapMemory a b) s = row_again m (with2 UnmapMemory) _ _ (reads_id ⊠ reads_id) (λ x. refl) (a, b) bytes s
-spelled_is_read m bytes (CreateBuffer a b c d) s = row_again m (with4 CreateBuffer) _ _ (reads_id ⊠ reads_id ⊠ reads_u64 ⊠ reads_u32) (λ x. refl) (a, (b, (c, d))) bytes s
-spelled_is_read m bytes (DestroyBuffer a b) s = row_again m (with2 DestroyBuffer) _ _ (reads_id ⊠ reads_id) (λ x. refl) (a, b) bytes s
-spelled_is_read m bytes (BindBufferMemory a b c d) s = row_again m (with4 BindBufferMemory) _ _ (reads_id ⊠ reads_id ⊠ reads_id ⊠ reads_u64) (λ x. refl) (a, (b, (c, d))) bytes s
-spelled_is_read m bytes (CreateImage a b c d e f) s = row_again m (with6 CreateImage) _ _ (reads_id ⊠ reads_id ⊠ reads_u32 ⊠ reads_u32 ⊠ reads_u32 ⊠ reads_u32) (λ x. refl) (a, (b, (c, (d, (e, f))))) bytes s
-spelled_is_read m bytes (DestroyImage a b) s = row_again m (with2 DestroyImage) _ _ (reads_id ⊠ reads_id) (λ x. refl) (a, b) bytes s
-spelled_is_read m bytes (BindImageMemory a b c d) s = row_again m (with4 BindImageMemory) _ _ (reads_id ⊠ reads_id ⊠ reads_id ⊠ reads_u64) (λ x. refl) (a, (b, (c, d))) bytes s
-spelled_is_read m bytes (CreateCommandPool a b c) s = row_again m (with3 CreateCommandPool) _ _ (reads_id ⊠ reads_id ⊠ reads_u32) (λ x. refl) (a, (b, c)) bytes s
-spelled_is_read m bytes (DestroyCommandPool a b) s = row_again m (with2 DestroyCommandPool) _ _ (reads_id ⊠ reads_id) (λ x. refl) (a, b) bytes s
-spelled_is_read m bytes (ResetCommandPool a b) s = row_again m (with2 ResetCommandPool) _ _ (reads_id ⊠ reads_id) (λ x. refl) (a, b) bytes s
-spelled_is_read m bytes (AllocateCommandBuffers a b c) s = row_again m (with3 AllocateCommandBuffers) _ _ (reads_id ⊠ reads_id ⊠ reads_ids) (λ x. refl) (a, (b, c)) bytes s
-spelled_is_read m bytes (FreeCommandBuffers a b c) s = row_again m (with3 FreeCommandBuffers) _ _ (reads_id ⊠ reads_id ⊠ reads_ids) (λ x. refl) (a, (b, c)) bytes s
-spelled_is_read m bytes (BeginCommandBuffer a b) s = row_again m (with2 BeginCommandBuffer) _ _ (reads_id ⊠ reads_u32) (λ x. refl) (a, b) bytes s
-spelled_is_read m bytes (EndCommandBuffer a) s = row_again m (with1 EndCommandBuffer) _ _ reads_id (λ x. refl) a bytes s
-spelled_is_read m bytes (ResetCommandBuffer a) s = row_again m (with1 ResetCommandBuffer) _ _ reads_id (λ x. refl) a bytes s
-spelled_is_read m bytes (CmdPipelineBarrier a b) s = row_again m (with2 CmdPipelineBarrier) _ _ (reads_id ⊠ reads_list reads_barrier) (λ x. refl) (a, b) bytes s
-spelled_is_read m bytes (CmdFillBuffer a b c d e) s = row_again m (with5 CmdFillBuffer) _ _ (reads_id ⊠ reads_id ⊠ reads_u64 ⊠ reads_u64 ⊠ reads_u32) (λ x. refl) (a, (b, (c, (d, e)))) bytes s
-spelled_is_read m bytes (CmdUpdateBuffer a b c d) s = row_again m (with4 CmdUpdateBuffer) _ _ (reads_id ⊠ reads_id ⊠ reads_u64 ⊠ reads_raw) (λ x. refl) (a, (b, (c, d))) bytes s
-spelled_is_read m bytes (CmdCopyBuffer a b c d) s = row_again m (with4 CmdCopyBuffer) _ _ (reads_id ⊠ reads_id ⊠ reads_id ⊠ reads_list reads_buffer_region) (λ x. refl) (a, (b, (c, d))) bytes s
-spelled_is_read m bytes (CmdCopyImage a b c d e f) s = row_again m (with6 CmdCopyImage) _ _ (reads_id ⊠ reads_id ⊠ reads_u32 ⊠ reads_id ⊠ reads_u32 ⊠ reads_list reads_image_region) (λ x. refl) (a, (b, (c, (d, (e, f))))) bytes s
-spelled_is_read m bytes (CmdCopyBufferToImage a b c d e) s = row_again m (with5 CmdCopyBufferToImage) _ _ (reads_id ⊠ reads_id ⊠ reads_id ⊠ reads_u32 ⊠ reads_list reads_mixed_region) (λ x. refl) (a, (b, (c, (d, e)))) bytes s
-spelled_is_read m bytes (CmdCopyImageToBuffer a b c d e) s = row_again m (with5 CmdCopyImageToBuffer) _ _ (reads_id ⊠ reads_id ⊠ reads_u32 ⊠ reads_id ⊠ reads_list reads_mixed_region) (λ x. refl) (a, (b, (c, (d, e)))) bytes s
-spelled_is_read m bytes (CmdClearColorImage a b c d e f g) s = row_again m (with7 CmdClearColorImage) _ _ (reads_id ⊠ reads_id ⊠ reads_u32 ⊠ reads_u32 ⊠ reads_u32 ⊠ reads_u32 ⊠ reads_u32) (λ x. refl) (a, (b, (c, (d, (e, (f, g)))))) bytes s
-spelled_is_read m bytes (CreateFence a b c) s = row_again m (with3 CreateFence) _ _ (reads_id ⊠ reads_id ⊠ reads_u32) (λ x. refl) (a, (b, c)) bytes s
-spelled_is_read m bytes (DestroyFence a b) s = row_again m (with2 DestroyFence) _ _ (reads_id ⊠ reads_id) (λ x. refl) (a, b) bytes s
-spelled_is_read m bytes (ResetFences a b) s = row_again m (with2 ResetFences) _ _ (reads_id ⊠ reads_ids) (λ x. refl) (a, b) bytes s
-spelled_is_read m bytes (WaitForFences a b c d) s = row_again m (with4 WaitForFences) _ _ (reads_id ⊠ reads_ids ⊠ reads_u32 ⊠ reads_u32) (λ x. refl) (a, (b, (c, d))) bytes s
-spelled_is_read m bytes (GetFenceStatus a b c) s = row_again m (with3 GetFenceStatus) _ _ (reads_id ⊠ reads_id ⊠ reads_u32) (λ x. refl) (a, (b, c)) bytes s
-spelled_is_read m bytes (CreateSemaphore a b) s = row_again m (with2 CreateSemaphore) _ _ (reads_id ⊠ reads_id) (λ x. refl) (a, b) bytes s
-spelled_is_read m bytes (DestroySemaphore a b) s = row_again m (with2 DestroySemaphore) _ _ (reads_id ⊠ reads_id) (λ x. refl) (a, b) bytes s
-spelled_is_read m bytes (QueueSubmit a b c) s = row_again m (with3 QueueSubmit) _ _ (reads_id ⊠ reads_list reads_submit ⊠ reads_id) (λ x. refl) (a, (b, c)) bytes s
-spelled_is_read m bytes (QueueWaitIdle a) s = row_again m (with1 QueueWaitIdle) _ _ reads_id (λ x. refl) a bytes s
-spelled_is_read m bytes (DeviceWaitIdle a) s = row_again m (with1 DeviceWaitIdle) _ _ reads_id (λ x. refl) a bytes s
-spelled_is_read m bytes (CreateSwapchainKHR a b c d e f g h) s = row_again m (with8 CreateSwapchainKHR) _ _ (reads_id ⊠ reads_id ⊠ reads_id ⊠ reads_u32 ⊠ reads_u32 ⊠ reads_u32 ⊠ reads_u32 ⊠ reads_u32) (λ x. refl) (a, (b, (c, (d, (e, (f, (g, h))))))) bytes s
-spelled_is_read m bytes (DestroySwapchainKHR a b) s = row_again m (with2 DestroySwapchainKHR) _ _ (reads_id ⊠ reads_id) (λ x. refl) (a, b) bytes s
-spelled_is_read m bytes (GetSwapchainImagesKHR a b c) s = row_again m (with3 GetSwapchainImagesKHR) _ _ (reads_id ⊠ reads_id ⊠ reads_ids) (λ x. refl) (a, (b, c)) bytes s
-spelled_is_read m bytes (AcquireNextImageKHR a b c d e f) s = row_again m (with6 AcquireNextImageKHR) _ _ (reads_id ⊠ reads_id ⊠ reads_id ⊠ reads_id ⊠ reads_u32 ⊠ reads_u32) (λ x. refl) (a, (b, (c, (d, (e, f))))) bytes s
-spelled_is_read m bytes (QueuePresentKHR a b c) s = present_again m a b c bytes s
-spelled_is_read m bytes (FillMemory a b c) s = row_again m (with3 FillMemory) _ _ (reads_id ⊠ reads_u64 ⊠ reads_raw) (λ x. refl) (a, (b, c)) bytes s
-spelled_is_read m bytes (InitImage a b c) s = row_again m (with3 InitImage) _ _ (reads_id ⊠ reads_u32 ⊠ reads_raw) (λ x. refl) (a, (b, c)) bytes s
-spelled_is_read m bytes (SetSwapchainState a b) s = row_again m (with2 SetSwapchainState) _ _ (reads_id ⊠ reads_words) (λ x. refl) (a, b) bytes s
-spelled_is_read m bytes (SetSemaphoreState a b) s = row_again m (with2 SetSemaphoreState) _ _ (reads_id ⊠ reads_u32) (λ x. refl) (a, b) bytes s
-spelled_is_read m bytes (BeginSection a) s = row_again m (with1 BeginSection) _ _ reads_u64 (λ x. refl) a bytes s
-spelled_is_read m bytes (EndSection a) s = row_again m (with1 EndSection) _ _ reads_u64 (λ x. refl) a bytes s
+spelled_is_read m bytes (Event.CreateInstance a b) s = row_again m (with2 Event.CreateInstance) _ _ (reads_id ⊠ reads_u32) (λ x. refl) (a, b) bytes s
+spelled_is_read m bytes (Event.DestroyInstance a) s = row_again m (with1 Event.DestroyInstance) _ _ reads_id (λ x. refl) a bytes s
+spelled_is_read m bytes (Event.CreateHeadlessSurfaceEXT a b) s = row_again m (with2 Event.CreateHeadlessSurfaceEXT) _ _ (reads_id ⊠ reads_id) (λ x. refl) (a, b) bytes s
+spelled_is_read m bytes (Event.DestroySurfaceKHR a b) s = row_again m (with2 Event.DestroySurfaceKHR) _ _ (reads_id ⊠ reads_id) (λ x. refl) (a, b) bytes s
+spelled_is_read m bytes (Event.CreateDevice a b) s = row_again m (with2 Event.CreateDevice) _ _ (reads_id ⊠ reads_id) (λ x. refl) (a, b) bytes s
+spelled_is_read m bytes (Event.DestroyDevice a) s = row_again m (with1 Event.DestroyDevice) _ _ reads_id (λ x. refl) a bytes s
+spelled_is_read m bytes (Event.GetDeviceQueue a b) s = row_again m (with2 Event.GetDeviceQueue) _ _ (reads_id ⊠ reads_id) (λ x. refl) (a, b) bytes s
+spelled_is_read m bytes (Event.AllocateMemory a b c) s = row_again m (with3 Event.AllocateMemory) _ _ (reads_id ⊠ reads_id ⊠ reads_u64) (λ x. refl) (a, (b, c)) bytes s
+spelled_is_read m bytes (Event.FreeMemory a b) s = row_again m (with2 Event.FreeMemory) _ _ (reads_id ⊠ reads_id) (λ x. refl) (a, b) bytes s
+spelled_is_read m bytes (Event.MapMemory a b c d) s = row_again m (with4 Event.MapMemory) _ _ (reads_id ⊠ reads_id ⊠ reads_u64 ⊠ reads_u64) (λ x. refl) (a, (b, (c, d))) bytes s
+spelled_is_read m bytes (Event.UnmapMemory a b) s = row_again m (with2 Event.UnmapMemory) _ _ (reads_id ⊠ reads_id) (λ x. refl) (a, b) bytes s
+spelled_is_read m bytes (Event.CreateBuffer a b c d) s = row_again m (with4 Event.CreateBuffer) _ _ (reads_id ⊠ reads_id ⊠ reads_u64 ⊠ reads_u32) (λ x. refl) (a, (b, (c, d))) bytes s
+spelled_is_read m bytes (Event.DestroyBuffer a b) s = row_again m (with2 Event.DestroyBuffer) _ _ (reads_id ⊠ reads_id) (λ x. refl) (a, b) bytes s
+spelled_is_read m bytes (Event.BindBufferMemory a b c d) s = row_again m (with4 Event.BindBufferMemory) _ _ (reads_id ⊠ reads_id ⊠ reads_id ⊠ reads_u64) (λ x. refl) (a, (b, (c, d))) bytes s
+spelled_is_read m bytes (Event.CreateImage a b c d e f) s = row_again m (with6 Event.CreateImage) _ _ (reads_id ⊠ reads_id ⊠ reads_u32 ⊠ reads_u32 ⊠ reads_u32 ⊠ reads_u32) (λ x. refl) (a, (b, (c, (d, (e, f))))) bytes s
+spelled_is_read m bytes (Event.DestroyImage a b) s = row_again m (with2 Event.DestroyImage) _ _ (reads_id ⊠ reads_id) (λ x. refl) (a, b) bytes s
+spelled_is_read m bytes (Event.BindImageMemory a b c d) s = row_again m (with4 Event.BindImageMemory) _ _ (reads_id ⊠ reads_id ⊠ reads_id ⊠ reads_u64) (λ x. refl) (a, (b, (c, d))) bytes s
+spelled_is_read m bytes (Event.CreateCommandPool a b c) s = row_again m (with3 Event.CreateCommandPool) _ _ (reads_id ⊠ reads_id ⊠ reads_u32) (λ x. refl) (a, (b, c)) bytes s
+spelled_is_read m bytes (Event.DestroyCommandPool a b) s = row_again m (with2 Event.DestroyCommandPool) _ _ (reads_id ⊠ reads_id) (λ x. refl) (a, b) bytes s
+spelled_is_read m bytes (Event.ResetCommandPool a b) s = row_again m (with2 Event.ResetCommandPool) _ _ (reads_id ⊠ reads_id) (λ x. refl) (a, b) bytes s
+spelled_is_read m bytes (Event.AllocateCommandBuffers a b c) s = row_again m (with3 Event.AllocateCommandBuffers) _ _ (reads_id ⊠ reads_id ⊠ reads_ids) (λ x. refl) (a, (b, c)) bytes s
+spelled_is_read m bytes (Event.FreeCommandBuffers a b c) s = row_again m (with3 Event.FreeCommandBuffers) _ _ (reads_id ⊠ reads_id ⊠ reads_ids) (λ x. refl) (a, (b, c)) bytes s
+spelled_is_read m bytes (Event.BeginCommandBuffer a b) s = row_again m (with2 Event.BeginCommandBuffer) _ _ (reads_id ⊠ reads_u32) (λ x. refl) (a, b) bytes s
+spelled_is_read m bytes (Event.EndCommandBuffer a) s = row_again m (with1 Event.EndCommandBuffer) _ _ reads_id (λ x. refl) a bytes s
+spelled_is_read m bytes (Event.ResetCommandBuffer a) s = row_again m (with1 Event.ResetCommandBuffer) _ _ reads_id (λ x. refl) a bytes s
+spelled_is_read m bytes (Event.CmdPipelineBarrier a b) s = row_again m (with2 Event.CmdPipelineBarrier) _ _ (reads_id ⊠ reads_list reads_barrier) (λ x. refl) (a, b) bytes s
+spelled_is_read m bytes (Event.CmdFillBuffer a b c d e) s = row_again m (with5 Event.CmdFillBuffer) _ _ (reads_id ⊠ reads_id ⊠ reads_u64 ⊠ reads_u64 ⊠ reads_u32) (λ x. refl) (a, (b, (c, (d, e)))) bytes s
+spelled_is_read m bytes (Event.CmdUpdateBuffer a b c d) s = row_again m (with4 Event.CmdUpdateBuffer) _ _ (reads_id ⊠ reads_id ⊠ reads_u64 ⊠ reads_raw) (λ x. refl) (a, (b, (c, d))) bytes s
+spelled_is_read m bytes (Event.CmdCopyBuffer a b c d) s = row_again m (with4 Event.CmdCopyBuffer) _ _ (reads_id ⊠ reads_id ⊠ reads_id ⊠ reads_list reads_buffer_region) (λ x. refl) (a, (b, (c, d))) bytes s
+spelled_is_read m bytes (Event.CmdCopyImage a b c d e f) s = row_again m (with6 Event.CmdCopyImage) _ _ (reads_id ⊠ reads_id ⊠ reads_u32 ⊠ reads_id ⊠ reads_u32 ⊠ reads_list reads_image_region) (λ x. refl) (a, (b, (c, (d, (e, f))))) bytes s
+spelled_is_read m bytes (Event.CmdCopyBufferToImage a b c d e) s = row_again m (with5 Event.CmdCopyBufferToImage) _ _ (reads_id ⊠ reads_id ⊠ reads_id ⊠ reads_u32 ⊠ reads_list reads_mixed_region) (λ x. refl) (a, (b, (c, (d, e)))) bytes s
+spelled_is_read m bytes (Event.CmdCopyImageToBuffer a b c d e) s = row_again m (with5 Event.CmdCopyImageToBuffer) _ _ (reads_id ⊠ reads_id ⊠ reads_u32 ⊠ reads_id ⊠ reads_list reads_mixed_region) (λ x. refl) (a, (b, (c, (d, e)))) bytes s
+spelled_is_read m bytes (Event.CmdClearColorImage a b c d e f g) s = row_again m (with7 Event.CmdClearColorImage) _ _ (reads_id ⊠ reads_id ⊠ reads_u32 ⊠ reads_u32 ⊠ reads_u32 ⊠ reads_u32 ⊠ reads_u32) (λ x. refl) (a, (b, (c, (d, (e, (f, g)))))) bytes s
+spelled_is_read m bytes (Event.CreateFence a b c) s = row_again m (with3 Event.CreateFence) _ _ (reads_id ⊠ reads_id ⊠ reads_u32) (λ x. refl) (a, (b, c)) bytes s
+spelled_is_read m bytes (Event.DestroyFence a b) s = row_again m (with2 Event.DestroyFence) _ _ (reads_id ⊠ reads_id) (λ x. refl) (a, b) bytes s
+spelled_is_read m bytes (Event.ResetFences a b) s = row_again m (with2 Event.ResetFences) _ _ (reads_id ⊠ reads_ids) (λ x. refl) (a, b) bytes s
+spelled_is_read m bytes (Event.WaitForFences a b c d) s = row_again m (with4 Event.WaitForFences) _ _ (reads_id ⊠ reads_ids ⊠ reads_u32 ⊠ reads_u32) (λ x. refl) (a, (b, (c, d))) bytes s
+spelled_is_read m bytes (Event.GetFenceStatus a b c) s = row_again m (with3 Event.GetFenceStatus) _ _ (reads_id ⊠ reads_id ⊠ reads_u32) (λ x. refl) (a, (b, c)) bytes s
+spelled_is_read m bytes (Event.CreateSemaphore a b) s = row_again m (with2 Event.CreateSemaphore) _ _ (reads_id ⊠ reads_id) (λ x. refl) (a, b) bytes s
+spelled_is_read m bytes (Event.DestroySemaphore a b) s = row_again m (with2 Event.DestroySemaphore) _ _ (reads_id ⊠ reads_id) (λ x. refl) (a, b) bytes s
+spelled_is_read m bytes (Event.QueueSubmit a b c) s = row_again m (with3 Event.QueueSubmit) _ _ (reads_id ⊠ reads_list reads_submit ⊠ reads_id) (λ x. refl) (a, (b, c)) bytes s
+spelled_is_read m bytes (Event.QueueWaitIdle a) s = row_again m (with1 Event.QueueWaitIdle) _ _ reads_id (λ x. refl) a bytes s
+spelled_is_read m bytes (Event.DeviceWaitIdle a) s = row_again m (with1 Event.DeviceWaitIdle) _ _ reads_id (λ x. refl) a bytes s
+spelled_is_read m bytes (Event.CreateSwapchainKHR a b c d e f g h) s = row_again m (with8 Event.CreateSwapchainKHR) _ _ (reads_id ⊠ reads_id ⊠ reads_id ⊠ reads_u32 ⊠ reads_u32 ⊠ reads_u32 ⊠ reads_u32 ⊠ reads_u32) (λ x. refl) (a, (b, (c, (d, (e, (f, (g, h))))))) bytes s
+spelled_is_read m bytes (Event.DestroySwapchainKHR a b) s = row_again m (with2 Event.DestroySwapchainKHR) _ _ (reads_id ⊠ reads_id) (λ x. refl) (a, b) bytes s
+spelled_is_read m bytes (Event.GetSwapchainImagesKHR a b c) s = row_again m (with3 Event.GetSwapchainImagesKHR) _ _ (reads_id ⊠ reads_id ⊠ reads_ids) (λ x. refl) (a, (b, c)) bytes s
+spelled_is_read m bytes (Event.AcquireNextImageKHR a b c d e f) s = row_again m (with6 Event.AcquireNextImageKHR) _ _ (reads_id ⊠ reads_id ⊠ reads_id ⊠ reads_id ⊠ reads_u32 ⊠ reads_u32) (λ x. refl) (a, (b, (c, (d, (e, f))))) bytes s
+spelled_is_read m bytes (Event.QueuePresentKHR a b c) s = present_again m a b c bytes s
+spelled_is_read m bytes (Event.FillMemory a b c) s = row_again m (with3 Event.FillMemory) _ _ (reads_id ⊠ reads_u64 ⊠ reads_raw) (λ x. refl) (a, (b, c)) bytes s
+spelled_is_read m bytes (Event.InitImage a b c) s = row_again m (with3 Event.InitImage) _ _ (reads_id ⊠ reads_u32 ⊠ reads_raw) (λ x. refl) (a, (b, c)) bytes s
+spelled_is_read m bytes (Event.SetSwapchainState a b) s = row_again m (with2 Event.SetSwapchainState) _ _ (reads_id ⊠ reads_words) (λ x. refl) (a, b) bytes s
+spelled_is_read m bytes (Event.SetSemaphoreState a b) s = row_again m (with2 Event.SetSemaphoreState) _ _ (reads_id ⊠ reads_u32) (λ x. refl) (a, b) bytes s
+spelled_is_read m bytes (Event.BeginSection a) s = row_again m (with1 Event.BeginSection) _ _ reads_u64 (λ x. refl) a bytes s
+spelled_is_read m bytes (Event.EndSection a) s = row_again m (with1 Event.EndSection) _ _ reads_u64 (λ x. refl) a bytes s

@@ -2,7 +2,6 @@
 use Rattle.std.specs.Prelude.{length, ℕ, ◌==◌, if◌then◌else◌, List, [], ◌∷◌, Option, Some, None}
 use Rattle.gfx_types.specs.declared.lists.Present.{Present}
 use Rattle.gfx_model.specs.Events.{Event}
-use Rattle.gfx_model.specs.Events.Event.{CreateInstance, DestroyInstance, CreateHeadlessSurfaceEXT, DestroySurfaceKHR, CreateDevice, DestroyDevice, GetDeviceQueue, AllocateMemory, FreeMemory, MapMemory, UnmapMemory, CreateBuffer, DestroyBuffer, BindBufferMemory, CreateImage, DestroyImage, BindImageMemory, CreateCommandPool, DestroyCommandPool, ResetCommandPool, AllocateCommandBuffers, FreeCommandBuffers, BeginCommandBuffer, EndCommandBuffer, ResetCommandBuffer, CmdPipelineBarrier, CmdFillBuffer, CmdUpdateBuffer, CmdCopyBuffer, CmdCopyImage, CmdCopyBufferToImage, CmdCopyImageToBuffer, CmdClearColorImage, CreateFence, DestroyFence, ResetFences, WaitForFences, GetFenceStatus, CreateSemaphore, DestroySemaphore, QueueSubmit, QueueWaitIdle, DeviceWaitIdle, CreateSwapchainKHR, DestroySwapchainKHR, GetSwapchainImagesKHR, AcquireNextImageKHR, QueuePresentKHR, FillMemory, InitImage, SetSwapchainState, SetSemaphoreState, BeginSection, EndSection}
 use Rattle.gfx_model.specs.Blocks.{Content, skipped, effect, is_skipped}
 use Rattle.gfx_grammar.specs.Reading.{◌>>=◌, Reader, ◌⊗◌, read_u32, read_u64, read_id, read_raw, read_ids, read_words, read_list, read_barrier, read_buffer_region, read_image_region, read_mixed_region, read_submit, read_present}
 
@@ -41,12 +40,12 @@ with8 f x = f x.0 x.1.0 x.1.1.0 x.1.1.1.0 x.1.1.1.1.0 x.1.1.1.1.1.0 x.1.1.1.1.1.
 
 -- version 1 presents one image, and version 2 a list
 abbrev pub with_one_present : ℕ × (List ℕ × Present) → Event
-with_one_present x = QueuePresentKHR x.0 x.1.0 (x.1.1 ∷ [])
+with_one_present x = Event.QueuePresentKHR x.0 x.1.0 (x.1.1 ∷ [])
 
 unfoldable pub present_row : ℕ → List ℕ → Option Event
 present_row m bytes =
     if m == 1 then exactly with_one_present (read_id ⊗ read_ids ⊗ read_present) bytes
-    else exactly (with3 QueuePresentKHR) (read_id ⊗ read_ids ⊗ read_list read_present) bytes
+    else exactly (with3 Event.QueuePresentKHR) (read_id ⊗ read_ids ⊗ read_list read_present) bytes
 
 -- a table: a number, and how the fields of its event are read
 abbrev pub Rows : Type 0
@@ -59,68 +58,68 @@ by_row (row ∷ rows) n bytes = if row.0 == n then row.1 bytes else by_row rows 
 
 abbrev pub calls : ℕ → Rows
 calls m =
-    (1, exactly (with2 CreateInstance) (read_id ⊗ read_u32))
-    ∷ (2, exactly (with1 DestroyInstance) read_id)
-    ∷ (3, exactly (with2 CreateHeadlessSurfaceEXT) (read_id ⊗ read_id))
-    ∷ (4, exactly (with2 DestroySurfaceKHR) (read_id ⊗ read_id))
-    ∷ (5, exactly (with2 CreateDevice) (read_id ⊗ read_id))
-    ∷ (6, exactly (with1 DestroyDevice) read_id)
-    ∷ (7, exactly (with2 GetDeviceQueue) (read_id ⊗ read_id))
-    ∷ (8, exactly (with3 AllocateMemory) (read_id ⊗ read_id ⊗ read_u64))
-    ∷ (9, exactly (with2 FreeMemory) (read_id ⊗ read_id))
-    ∷ (10, exactly (with4 MapMemory) (read_id ⊗ read_id ⊗ read_u64 ⊗ read_u64))
-    ∷ (11, exactly (with2 UnmapMemory) (read_id ⊗ read_id))
-    ∷ (12, exactly (with4 CreateBuffer) (read_id ⊗ read_id ⊗ read_u64 ⊗ read_u32))
-    ∷ (13, exactly (with2 DestroyBuffer) (read_id ⊗ read_id))
-    ∷ (14, exactly (with4 BindBufferMemory) (read_id ⊗ read_id ⊗ read_id ⊗ read_u64))
-    ∷ (15, exactly (with6 CreateImage) (read_id ⊗ read_id ⊗ read_u32 ⊗ read_u32 ⊗ read_u32 ⊗ read_u32))
-    ∷ (16, exactly (with2 DestroyImage) (read_id ⊗ read_id))
-    ∷ (17, exactly (with4 BindImageMemory) (read_id ⊗ read_id ⊗ read_id ⊗ read_u64))
-    ∷ (18, exactly (with3 CreateCommandPool) (read_id ⊗ read_id ⊗ read_u32))
-    ∷ (19, exactly (with2 DestroyCommandPool) (read_id ⊗ read_id))
-    ∷ (20, exactly (with2 ResetCommandPool) (read_id ⊗ read_id))
-    ∷ (21, exactly (with3 AllocateCommandBuffers) (read_id ⊗ read_id ⊗ read_ids))
-    ∷ (22, exactly (with3 FreeCommandBuffers) (read_id ⊗ read_id ⊗ read_ids))
-    ∷ (23, exactly (with2 BeginCommandBuffer) (read_id ⊗ read_u32))
-    ∷ (24, exactly (with1 EndCommandBuffer) read_id)
-    ∷ (25, exactly (with1 ResetCommandBuffer) read_id)
-    ∷ (26, exactly (with2 CmdPipelineBarrier) (read_id ⊗ read_list read_barrier))
-    ∷ (27, exactly (with5 CmdFillBuffer) (read_id ⊗ read_id ⊗ read_u64 ⊗ read_u64 ⊗ read_u32))
-    ∷ (28, exactly (with4 CmdUpdateBuffer) (read_id ⊗ read_id ⊗ read_u64 ⊗ read_raw))
-    ∷ (29, exactly (with4 CmdCopyBuffer) (read_id ⊗ read_id ⊗ read_id ⊗ read_list read_buffer_region))
-    ∷ (30, exactly (with6 CmdCopyImage) (read_id ⊗ read_id ⊗ read_u32 ⊗ read_id ⊗ read_u32 ⊗ read_list read_image_region))
-    ∷ (31, exactly (with5 CmdCopyBufferToImage) (read_id ⊗ read_id ⊗ read_id ⊗ read_u32 ⊗ read_list read_mixed_region))
-    ∷ (32, exactly (with5 CmdCopyImageToBuffer) (read_id ⊗ read_id ⊗ read_u32 ⊗ read_id ⊗ read_list read_mixed_region))
-    ∷ (33, exactly (with7 CmdClearColorImage) (read_id ⊗ read_id ⊗ read_u32 ⊗ read_u32 ⊗ read_u32 ⊗ read_u32 ⊗ read_u32))
-    ∷ (34, exactly (with3 CreateFence) (read_id ⊗ read_id ⊗ read_u32))
-    ∷ (35, exactly (with2 DestroyFence) (read_id ⊗ read_id))
-    ∷ (36, exactly (with2 ResetFences) (read_id ⊗ read_ids))
-    ∷ (37, exactly (with4 WaitForFences) (read_id ⊗ read_ids ⊗ read_u32 ⊗ read_u32))
-    ∷ (38, exactly (with3 GetFenceStatus) (read_id ⊗ read_id ⊗ read_u32))
-    ∷ (39, exactly (with2 CreateSemaphore) (read_id ⊗ read_id))
-    ∷ (40, exactly (with2 DestroySemaphore) (read_id ⊗ read_id))
-    ∷ (41, exactly (with3 QueueSubmit) (read_id ⊗ read_list read_submit ⊗ read_id))
-    ∷ (42, exactly (with1 QueueWaitIdle) read_id)
-    ∷ (43, exactly (with1 DeviceWaitIdle) read_id)
-    ∷ (44, exactly (with8 CreateSwapchainKHR) (read_id ⊗ read_id ⊗ read_id ⊗ read_u32 ⊗ read_u32 ⊗ read_u32 ⊗ read_u32 ⊗ read_u32))
-    ∷ (45, exactly (with2 DestroySwapchainKHR) (read_id ⊗ read_id))
-    ∷ (46, exactly (with3 GetSwapchainImagesKHR) (read_id ⊗ read_id ⊗ read_ids))
-    ∷ (47, exactly (with6 AcquireNextImageKHR) (read_id ⊗ read_id ⊗ read_id ⊗ read_id ⊗ read_u32 ⊗ read_u32))
+    (1, exactly (with2 Event.CreateInstance) (read_id ⊗ read_u32))
+    ∷ (2, exactly (with1 Event.DestroyInstance) read_id)
+    ∷ (3, exactly (with2 Event.CreateHeadlessSurfaceEXT) (read_id ⊗ read_id))
+    ∷ (4, exactly (with2 Event.DestroySurfaceKHR) (read_id ⊗ read_id))
+    ∷ (5, exactly (with2 Event.CreateDevice) (read_id ⊗ read_id))
+    ∷ (6, exactly (with1 Event.DestroyDevice) read_id)
+    ∷ (7, exactly (with2 Event.GetDeviceQueue) (read_id ⊗ read_id))
+    ∷ (8, exactly (with3 Event.AllocateMemory) (read_id ⊗ read_id ⊗ read_u64))
+    ∷ (9, exactly (with2 Event.FreeMemory) (read_id ⊗ read_id))
+    ∷ (10, exactly (with4 Event.MapMemory) (read_id ⊗ read_id ⊗ read_u64 ⊗ read_u64))
+    ∷ (11, exactly (with2 Event.UnmapMemory) (read_id ⊗ read_id))
+    ∷ (12, exactly (with4 Event.CreateBuffer) (read_id ⊗ read_id ⊗ read_u64 ⊗ read_u32))
+    ∷ (13, exactly (with2 Event.DestroyBuffer) (read_id ⊗ read_id))
+    ∷ (14, exactly (with4 Event.BindBufferMemory) (read_id ⊗ read_id ⊗ read_id ⊗ read_u64))
+    ∷ (15, exactly (with6 Event.CreateImage) (read_id ⊗ read_id ⊗ read_u32 ⊗ read_u32 ⊗ read_u32 ⊗ read_u32))
+    ∷ (16, exactly (with2 Event.DestroyImage) (read_id ⊗ read_id))
+    ∷ (17, exactly (with4 Event.BindImageMemory) (read_id ⊗ read_id ⊗ read_id ⊗ read_u64))
+    ∷ (18, exactly (with3 Event.CreateCommandPool) (read_id ⊗ read_id ⊗ read_u32))
+    ∷ (19, exactly (with2 Event.DestroyCommandPool) (read_id ⊗ read_id))
+    ∷ (20, exactly (with2 Event.ResetCommandPool) (read_id ⊗ read_id))
+    ∷ (21, exactly (with3 Event.AllocateCommandBuffers) (read_id ⊗ read_id ⊗ read_ids))
+    ∷ (22, exactly (with3 Event.FreeCommandBuffers) (read_id ⊗ read_id ⊗ read_ids))
+    ∷ (23, exactly (with2 Event.BeginCommandBuffer) (read_id ⊗ read_u32))
+    ∷ (24, exactly (with1 Event.EndCommandBuffer) read_id)
+    ∷ (25, exactly (with1 Event.ResetCommandBuffer) read_id)
+    ∷ (26, exactly (with2 Event.CmdPipelineBarrier) (read_id ⊗ read_list read_barrier))
+    ∷ (27, exactly (with5 Event.CmdFillBuffer) (read_id ⊗ read_id ⊗ read_u64 ⊗ read_u64 ⊗ read_u32))
+    ∷ (28, exactly (with4 Event.CmdUpdateBuffer) (read_id ⊗ read_id ⊗ read_u64 ⊗ read_raw))
+    ∷ (29, exactly (with4 Event.CmdCopyBuffer) (read_id ⊗ read_id ⊗ read_id ⊗ read_list read_buffer_region))
+    ∷ (30, exactly (with6 Event.CmdCopyImage) (read_id ⊗ read_id ⊗ read_u32 ⊗ read_id ⊗ read_u32 ⊗ read_list read_image_region))
+    ∷ (31, exactly (with5 Event.CmdCopyBufferToImage) (read_id ⊗ read_id ⊗ read_id ⊗ read_u32 ⊗ read_list read_mixed_region))
+    ∷ (32, exactly (with5 Event.CmdCopyImageToBuffer) (read_id ⊗ read_id ⊗ read_u32 ⊗ read_id ⊗ read_list read_mixed_region))
+    ∷ (33, exactly (with7 Event.CmdClearColorImage) (read_id ⊗ read_id ⊗ read_u32 ⊗ read_u32 ⊗ read_u32 ⊗ read_u32 ⊗ read_u32))
+    ∷ (34, exactly (with3 Event.CreateFence) (read_id ⊗ read_id ⊗ read_u32))
+    ∷ (35, exactly (with2 Event.DestroyFence) (read_id ⊗ read_id))
+    ∷ (36, exactly (with2 Event.ResetFences) (read_id ⊗ read_ids))
+    ∷ (37, exactly (with4 Event.WaitForFences) (read_id ⊗ read_ids ⊗ read_u32 ⊗ read_u32))
+    ∷ (38, exactly (with3 Event.GetFenceStatus) (read_id ⊗ read_id ⊗ read_u32))
+    ∷ (39, exactly (with2 Event.CreateSemaphore) (read_id ⊗ read_id))
+    ∷ (40, exactly (with2 Event.DestroySemaphore) (read_id ⊗ read_id))
+    ∷ (41, exactly (with3 Event.QueueSubmit) (read_id ⊗ read_list read_submit ⊗ read_id))
+    ∷ (42, exactly (with1 Event.QueueWaitIdle) read_id)
+    ∷ (43, exactly (with1 Event.DeviceWaitIdle) read_id)
+    ∷ (44, exactly (with8 Event.CreateSwapchainKHR) (read_id ⊗ read_id ⊗ read_id ⊗ read_u32 ⊗ read_u32 ⊗ read_u32 ⊗ read_u32 ⊗ read_u32))
+    ∷ (45, exactly (with2 Event.DestroySwapchainKHR) (read_id ⊗ read_id))
+    ∷ (46, exactly (with3 Event.GetSwapchainImagesKHR) (read_id ⊗ read_id ⊗ read_ids))
+    ∷ (47, exactly (with6 Event.AcquireNextImageKHR) (read_id ⊗ read_id ⊗ read_id ⊗ read_id ⊗ read_u32 ⊗ read_u32))
     ∷ (48, present_row m)
     ∷ []
 
 abbrev pub metas : Rows
 metas =
-    (2, exactly (with3 FillMemory) (read_id ⊗ read_u64 ⊗ read_raw))
-    ∷ (3, exactly (with3 InitImage) (read_id ⊗ read_u32 ⊗ read_raw))
-    ∷ (4, exactly (with2 SetSwapchainState) (read_id ⊗ read_words))
-    ∷ (5, exactly (with2 SetSemaphoreState) (read_id ⊗ read_u32))
+    (2, exactly (with3 Event.FillMemory) (read_id ⊗ read_u64 ⊗ read_raw))
+    ∷ (3, exactly (with3 Event.InitImage) (read_id ⊗ read_u32 ⊗ read_raw))
+    ∷ (4, exactly (with2 Event.SetSwapchainState) (read_id ⊗ read_words))
+    ∷ (5, exactly (with2 Event.SetSemaphoreState) (read_id ⊗ read_u32))
     ∷ []
 
 abbrev pub markers : Rows
 markers =
-    (1, exactly (with1 BeginSection) read_u64)
-    ∷ (2, exactly (with1 EndSection) read_u64)
+    (1, exactly (with1 Event.BeginSection) read_u64)
+    ∷ (2, exactly (with1 Event.EndSection) read_u64)
     ∷ []
 
 -- the table of a type of block: 2 a marker, 3 a metadata, 4 a call

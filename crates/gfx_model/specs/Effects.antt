@@ -11,7 +11,6 @@ use Rattle.gfx_types.specs.declared.op.Place.TheVariants as place
 use Rattle.gfx_types.specs.declared.op.Op.{Op}
 use Rattle.gfx_types.specs.declared.op.Op.TheVariants as op
 use Rattle.gfx_model.specs.Events.{Event}
-use Rattle.gfx_model.specs.Events.Event.{CreateInstance, DestroyInstance, CreateHeadlessSurfaceEXT, DestroySurfaceKHR, CreateDevice, DestroyDevice, GetDeviceQueue, AllocateMemory, FreeMemory, MapMemory, UnmapMemory, CreateBuffer, DestroyBuffer, BindBufferMemory, CreateImage, DestroyImage, BindImageMemory, CreateCommandPool, DestroyCommandPool, ResetCommandPool, AllocateCommandBuffers, FreeCommandBuffers, BeginCommandBuffer, EndCommandBuffer, ResetCommandBuffer, CmdPipelineBarrier, CmdFillBuffer, CmdUpdateBuffer, CmdCopyBuffer, CmdCopyImage, CmdCopyBufferToImage, CmdCopyImageToBuffer, CmdClearColorImage, CreateFence, DestroyFence, ResetFences, WaitForFences, GetFenceStatus, CreateSemaphore, DestroySemaphore, QueueSubmit, QueueWaitIdle, DeviceWaitIdle, CreateSwapchainKHR, DestroySwapchainKHR, GetSwapchainImagesKHR, AcquireNextImageKHR, QueuePresentKHR, FillMemory, InitImage, SetSwapchainState, SetSemaphoreState, BeginSection, EndSection}
 use Rattle.gfx_model.specs.Steps.{Step, Detail, Change}
 use Rattle.gfx_model.specs.Steps.Detail.{an_instance, a_surface, a_device, a_queue, a_memory, a_buffer, an_image, a_pool, a_command_buffer, a_fence, a_semaphore, a_swapchain}
 use Rattle.gfx_model.specs.Steps.Change.{put, fill, copy, set_layout}
@@ -89,20 +88,20 @@ download v image image_window buffer_window r =
 
 -- what a command does, in order
 unfoldable pub changes_of_command : View → Event → List Change
-changes_of_command v (CmdPipelineBarrier cb barriers) = map barrier_change barriers
-changes_of_command v (CmdFillBuffer cb buffer offset size word) =
+changes_of_command v (Event.CmdPipelineBarrier cb barriers) = map barrier_change barriers
+changes_of_command v (Event.CmdFillBuffer cb buffer offset size word) =
     inside_of (window v buffer) (λ w. fill w.place (w.offset + offset) (fill_size (size_of v buffer) offset size) word ∷ [])
-changes_of_command v (CmdUpdateBuffer cb buffer offset bytes) =
+changes_of_command v (Event.CmdUpdateBuffer cb buffer offset bytes) =
     inside_of (window v buffer) (λ w. put w.place (w.offset + offset) bytes ∷ [])
-changes_of_command v (CmdCopyBuffer cb source target regions) =
+changes_of_command v (Event.CmdCopyBuffer cb source target regions) =
     inside_both (window v source) (window v target) (λ s t. map (buffer_copy s t) regions)
-changes_of_command v (CmdCopyImage cb source source_layout target target_layout regions) =
+changes_of_command v (Event.CmdCopyImage cb source source_layout target target_layout regions) =
     inside_both (window v source) (window v target) (λ s t. flat_map (image_copy v source target s t) regions)
-changes_of_command v (CmdCopyBufferToImage cb source target layout regions) =
+changes_of_command v (Event.CmdCopyBufferToImage cb source target layout regions) =
     inside_both (window v source) (window v target) (λ s t. flat_map (upload v target s t) regions)
-changes_of_command v (CmdCopyImageToBuffer cb source layout target regions) =
+changes_of_command v (Event.CmdCopyImageToBuffer cb source layout target regions) =
     inside_both (window v source) (window v target) (λ s t. flat_map (download v source s t) regions)
-changes_of_command v (CmdClearColorImage cb image layout c0 c1 c2 c3) =
+changes_of_command v (Event.CmdClearColorImage cb image layout c0 c1 c2 c3) =
     inside_of (window v image) (λ w. fill w.place w.offset w.length (clear_word (format_at v image) c0 c1 c2 c3) ∷ [])
 changes_of_command v _ = []
 
@@ -155,72 +154,72 @@ image_bytes_put _ image bytes = []
 
 -- the steps of an event's row
 unfoldable pub effect_of : View → Event → List Step
-effect_of v (CreateInstance instance api) = creates instance 0 (an_instance api) ∷ []
-effect_of v (DestroyInstance instance) = ends instance ∷ []
-effect_of v (CreateHeadlessSurfaceEXT instance surface) = creates surface instance a_surface ∷ []
-effect_of v (DestroySurfaceKHR instance surface) = ends surface ∷ []
-effect_of v (CreateDevice instance device) = creates device instance a_device ∷ []
-effect_of v (DestroyDevice device) = ends device ∷ []
-effect_of v (GetDeviceQueue device queue) = if is_some (queue_of v device) then [] else creates queue device a_queue ∷ []
-effect_of v (AllocateMemory device memory size) = creates memory device (a_memory size) ∷ []
-effect_of v (FreeMemory device memory) = ends memory ∷ []
-effect_of v (MapMemory device memory offset size) =
+effect_of v (Event.CreateInstance instance api) = creates instance 0 (an_instance api) ∷ []
+effect_of v (Event.DestroyInstance instance) = ends instance ∷ []
+effect_of v (Event.CreateHeadlessSurfaceEXT instance surface) = creates surface instance a_surface ∷ []
+effect_of v (Event.DestroySurfaceKHR instance surface) = ends surface ∷ []
+effect_of v (Event.CreateDevice instance device) = creates device instance a_device ∷ []
+effect_of v (Event.DestroyDevice device) = ends device ∷ []
+effect_of v (Event.GetDeviceQueue device queue) = if is_some (queue_of v device) then [] else creates queue device a_queue ∷ []
+effect_of v (Event.AllocateMemory device memory size) = creates memory device (a_memory size) ∷ []
+effect_of v (Event.FreeMemory device memory) = ends memory ∷ []
+effect_of v (Event.MapMemory device memory offset size) =
     maps memory offset (if size == whole then size_of v memory - offset else size) ∷ []
-effect_of v (UnmapMemory device memory) = unmaps memory ∷ []
-effect_of v (CreateBuffer device buffer size usage) = creates buffer device (a_buffer size usage) ∷ []
-effect_of v (DestroyBuffer device buffer) = ends buffer ∷ []
-effect_of v (BindBufferMemory device buffer memory offset) = binds buffer memory offset ∷ []
-effect_of v (CreateImage device image format width height usage) =
+effect_of v (Event.UnmapMemory device memory) = unmaps memory ∷ []
+effect_of v (Event.CreateBuffer device buffer size usage) = creates buffer device (a_buffer size usage) ∷ []
+effect_of v (Event.DestroyBuffer device buffer) = ends buffer ∷ []
+effect_of v (Event.BindBufferMemory device buffer memory offset) = binds buffer memory offset ∷ []
+effect_of v (Event.CreateImage device image format width height usage) =
     creates image device (an_image format width height usage None) ∷ []
-effect_of v (DestroyImage device image) = ends image ∷ []
-effect_of v (BindImageMemory device image memory offset) = binds image memory offset ∷ []
-effect_of v (CreateCommandPool device pool flags) = creates pool device (a_pool flags) ∷ []
-effect_of v (DestroyCommandPool device pool) = ends pool ∷ []
-effect_of v (ResetCommandPool device pool) = resets_pool pool ∷ []
-effect_of v (AllocateCommandBuffers device pool buffers) = map (λ cb. creates cb pool a_command_buffer) buffers
-effect_of v (FreeCommandBuffers device pool buffers) = map ends buffers
-effect_of v (BeginCommandBuffer cb flags) = begins cb flags ∷ []
-effect_of v (EndCommandBuffer cb) = finishes cb ∷ []
-effect_of v (ResetCommandBuffer cb) = resets cb ∷ []
-effect_of v (CmdPipelineBarrier cb barriers) = records cb (CmdPipelineBarrier cb barriers) ∷ []
-effect_of v (CmdFillBuffer cb buffer offset size word) = records cb (CmdFillBuffer cb buffer offset size word) ∷ []
-effect_of v (CmdUpdateBuffer cb buffer offset bytes) = records cb (CmdUpdateBuffer cb buffer offset bytes) ∷ []
-effect_of v (CmdCopyBuffer cb source target regions) = records cb (CmdCopyBuffer cb source target regions) ∷ []
-effect_of v (CmdCopyImage cb source source_layout target target_layout regions) =
-    records cb (CmdCopyImage cb source source_layout target target_layout regions) ∷ []
-effect_of v (CmdCopyBufferToImage cb source target layout regions) =
-    records cb (CmdCopyBufferToImage cb source target layout regions) ∷ []
-effect_of v (CmdCopyImageToBuffer cb source layout target regions) =
-    records cb (CmdCopyImageToBuffer cb source layout target regions) ∷ []
-effect_of v (CmdClearColorImage cb image layout c0 c1 c2 c3) =
-    records cb (CmdClearColorImage cb image layout c0 c1 c2 c3) ∷ []
-effect_of v (CreateFence device fence flags) =
+effect_of v (Event.DestroyImage device image) = ends image ∷ []
+effect_of v (Event.BindImageMemory device image memory offset) = binds image memory offset ∷ []
+effect_of v (Event.CreateCommandPool device pool flags) = creates pool device (a_pool flags) ∷ []
+effect_of v (Event.DestroyCommandPool device pool) = ends pool ∷ []
+effect_of v (Event.ResetCommandPool device pool) = resets_pool pool ∷ []
+effect_of v (Event.AllocateCommandBuffers device pool buffers) = map (λ cb. creates cb pool a_command_buffer) buffers
+effect_of v (Event.FreeCommandBuffers device pool buffers) = map ends buffers
+effect_of v (Event.BeginCommandBuffer cb flags) = begins cb flags ∷ []
+effect_of v (Event.EndCommandBuffer cb) = finishes cb ∷ []
+effect_of v (Event.ResetCommandBuffer cb) = resets cb ∷ []
+effect_of v (Event.CmdPipelineBarrier cb barriers) = records cb (Event.CmdPipelineBarrier cb barriers) ∷ []
+effect_of v (Event.CmdFillBuffer cb buffer offset size word) = records cb (Event.CmdFillBuffer cb buffer offset size word) ∷ []
+effect_of v (Event.CmdUpdateBuffer cb buffer offset bytes) = records cb (Event.CmdUpdateBuffer cb buffer offset bytes) ∷ []
+effect_of v (Event.CmdCopyBuffer cb source target regions) = records cb (Event.CmdCopyBuffer cb source target regions) ∷ []
+effect_of v (Event.CmdCopyImage cb source source_layout target target_layout regions) =
+    records cb (Event.CmdCopyImage cb source source_layout target target_layout regions) ∷ []
+effect_of v (Event.CmdCopyBufferToImage cb source target layout regions) =
+    records cb (Event.CmdCopyBufferToImage cb source target layout regions) ∷ []
+effect_of v (Event.CmdCopyImageToBuffer cb source layout target regions) =
+    records cb (Event.CmdCopyImageToBuffer cb source layout target regions) ∷ []
+effect_of v (Event.CmdClearColorImage cb image layout c0 c1 c2 c3) =
+    records cb (Event.CmdClearColorImage cb image layout c0 c1 c2 c3) ∷ []
+effect_of v (Event.CreateFence device fence flags) =
     creates fence device a_fence ∷ (if flags == 1 then signals fence ∷ [] else [])
-effect_of v (DestroyFence device fence) = ends fence ∷ []
-effect_of v (ResetFences device fences) = map unsignals fences
-effect_of v (WaitForFences device fences wait_all answer) = []
-effect_of v (GetFenceStatus device fence answer) = []
-effect_of v (CreateSemaphore device semaphore) = creates semaphore device a_semaphore ∷ []
-effect_of v (DestroySemaphore device semaphore) = ends semaphore ∷ []
-effect_of v (QueueSubmit queue submits fence) = flat_map (steps_of_turn v) (turns_of submits fence)
-effect_of v (QueueWaitIdle queue) = []
-effect_of v (DeviceWaitIdle device) = []
-effect_of v (CreateSwapchainKHR device swapchain surface images format width height usage) =
+effect_of v (Event.DestroyFence device fence) = ends fence ∷ []
+effect_of v (Event.ResetFences device fences) = map unsignals fences
+effect_of v (Event.WaitForFences device fences wait_all answer) = []
+effect_of v (Event.GetFenceStatus device fence answer) = []
+effect_of v (Event.CreateSemaphore device semaphore) = creates semaphore device a_semaphore ∷ []
+effect_of v (Event.DestroySemaphore device semaphore) = ends semaphore ∷ []
+effect_of v (Event.QueueSubmit queue submits fence) = flat_map (steps_of_turn v) (turns_of submits fence)
+effect_of v (Event.QueueWaitIdle queue) = []
+effect_of v (Event.DeviceWaitIdle device) = []
+effect_of v (Event.CreateSwapchainKHR device swapchain surface images format width height usage) =
     creates swapchain device (a_swapchain surface images format width height usage) ∷ []
-effect_of v (DestroySwapchainKHR device swapchain) = ends swapchain ∷ []
-effect_of v (GetSwapchainImagesKHR device swapchain images) = first_fetch (fetched v swapchain) (fetches v swapchain 0 images)
-effect_of v (AcquireNextImageKHR device swapchain semaphore fence index answer) =
+effect_of v (Event.DestroySwapchainKHR device swapchain) = ends swapchain ∷ []
+effect_of v (Event.GetSwapchainImagesKHR device swapchain images) = first_fetch (fetched v swapchain) (fetches v swapchain 0 images)
+effect_of v (Event.AcquireNextImageKHR device swapchain semaphore fence index answer) =
     if answer == 1 then [] else acquires swapchain index ∷ signals_any semaphore ++ signals_any fence
-effect_of v (QueuePresentKHR queue waits images) =
+effect_of v (Event.QueuePresentKHR queue waits images) =
     flat_map (steps_of_turn v) (map wait waits) ++ map (λ p. gives_back p.swapchain p.index) images ++ presents ∷ []
-effect_of v (FillMemory memory offset bytes) = changes (put (place.Memory memory) offset bytes) ∷ []
-effect_of v (InitImage image layout bytes) =
+effect_of v (Event.FillMemory memory offset bytes) = changes (put (place.Memory memory) offset bytes) ∷ []
+effect_of v (Event.InitImage image layout bytes) =
     changes (set_layout image layout) ∷ option_map_or (λ o. image_bytes_put o.detail image bytes) (v.live image) []
-effect_of v (SetSwapchainState swapchain acquired) = marks swapchain 0 acquired
-effect_of v (SetSemaphoreState semaphore signalled) =
+effect_of v (Event.SetSwapchainState swapchain acquired) = marks swapchain 0 acquired
+effect_of v (Event.SetSemaphoreState semaphore signalled) =
     (if signalled == 1 then signals semaphore else unsignals semaphore) ∷ []
-effect_of v (BeginSection frame) = begins_section frame ∷ []
-effect_of v (EndSection frame) = ends_section ∷ []
+effect_of v (Event.BeginSection frame) = begins_section frame ∷ []
+effect_of v (Event.EndSection frame) = ends_section ∷ []
 
 -- all steps of an event: that it is taken, and its effect
 abbrev pub steps_of : View → Event → List Step

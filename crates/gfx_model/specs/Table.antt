@@ -10,7 +10,6 @@ use Rattle.gfx_types.specs.declared.lists.ImageRegion.{ImageRegion}
 use Rattle.gfx_types.specs.declared.lists.MixedRegion.{MixedRegion}
 use Rattle.gfx_types.specs.declared.lists.Submit.{Submit}
 use Rattle.gfx_model.specs.Events.{Event}
-use Rattle.gfx_model.specs.Events.Event.{CreateInstance, DestroyInstance, CreateHeadlessSurfaceEXT, DestroySurfaceKHR, CreateDevice, DestroyDevice, GetDeviceQueue, AllocateMemory, FreeMemory, MapMemory, UnmapMemory, CreateBuffer, DestroyBuffer, BindBufferMemory, CreateImage, DestroyImage, BindImageMemory, CreateCommandPool, DestroyCommandPool, ResetCommandPool, AllocateCommandBuffers, FreeCommandBuffers, BeginCommandBuffer, EndCommandBuffer, ResetCommandBuffer, CmdPipelineBarrier, CmdFillBuffer, CmdUpdateBuffer, CmdCopyBuffer, CmdCopyImage, CmdCopyBufferToImage, CmdCopyImageToBuffer, CmdClearColorImage, CreateFence, DestroyFence, ResetFences, WaitForFences, GetFenceStatus, CreateSemaphore, DestroySemaphore, QueueSubmit, QueueWaitIdle, DeviceWaitIdle, CreateSwapchainKHR, DestroySwapchainKHR, GetSwapchainImagesKHR, AcquireNextImageKHR, QueuePresentKHR, FillMemory, InitImage, SetSwapchainState, SetSemaphoreState, BeginSection, EndSection}
 use Rattle.gfx_model.specs.Spelling.{spelling, id_of}
 use Rattle.gfx_model.specs.Limits.{max_frame, max_list_length, max_extent, max_swapchain_images, max_regions, max_barriers, max_update, max_submits, max_semaphores, max_submit_buffers, max_presents, bind_alignment}
 use Rattle.gfx_model.specs.Questions.{image_size}
@@ -150,130 +149,130 @@ stands_in_section n = is_among n (
 
 -- where an event may stand: other calls outside the section, metadata 3 to 5 inside
 unfoldable pub place_of : Event → List Check
-place_of (InitImage _ _ _) = inside ∷ []
-place_of (SetSwapchainState _ _) = inside ∷ []
-place_of (SetSemaphoreState _ _) = inside ∷ []
-place_of (FillMemory _ _ _) = []
-place_of (BeginSection _) = []
-place_of (EndSection _) = []
+place_of (Event.InitImage _ _ _) = inside ∷ []
+place_of (Event.SetSwapchainState _ _) = inside ∷ []
+place_of (Event.SetSemaphoreState _ _) = inside ∷ []
+place_of (Event.FillMemory _ _ _) = []
+place_of (Event.BeginSection _) = []
+place_of (Event.EndSection _) = []
 place_of e = if stands_in_section (id_of e) then [] else outside ∷ []
 
 -- the command buffer of a command
 abbrev pub cb_of : Event → ℕ
-cb_of (CmdPipelineBarrier cb barriers) = cb
-cb_of (CmdFillBuffer cb buffer offset size word) = cb
-cb_of (CmdUpdateBuffer cb buffer offset bytes) = cb
-cb_of (CmdCopyBuffer cb source target regions) = cb
-cb_of (CmdCopyImage cb source source_layout target target_layout regions) = cb
-cb_of (CmdCopyBufferToImage cb source target layout regions) = cb
-cb_of (CmdCopyImageToBuffer cb source layout target regions) = cb
-cb_of (CmdClearColorImage cb image layout c0 c1 c2 c3) = cb
+cb_of (Event.CmdPipelineBarrier cb barriers) = cb
+cb_of (Event.CmdFillBuffer cb buffer offset size word) = cb
+cb_of (Event.CmdUpdateBuffer cb buffer offset bytes) = cb
+cb_of (Event.CmdCopyBuffer cb source target regions) = cb
+cb_of (Event.CmdCopyImage cb source source_layout target target_layout regions) = cb
+cb_of (Event.CmdCopyBufferToImage cb source target layout regions) = cb
+cb_of (Event.CmdCopyImageToBuffer cb source layout target regions) = cb
+cb_of (Event.CmdClearColorImage cb image layout c0 c1 c2 c3) = cb
 cb_of _ = 0
 
 -- the checks of a command's own, between those that its buffer is recording and that there is room
 abbrev pub command_checks : Event → List Check
-command_checks (CmdPipelineBarrier cb barriers) =
+command_checks (Event.CmdPipelineBarrier cb barriers) =
     between 0 max_barriers barriers ++ flat_map (λ b. res kind.Image cb b.image) barriers ++ map barrier_value barriers
-command_checks (CmdFillBuffer cb buffer offset size word) =
+command_checks (Event.CmdFillBuffer cb buffer offset size word) =
     res kind.Buffer cb buffer
     ++ dst buffer ∷ value (divides 4 offset && (size == whole || nat_le 4 size && divides 4 size)) ∷ span buffer offset size
-command_checks (CmdUpdateBuffer cb buffer offset bytes) =
+command_checks (Event.CmdUpdateBuffer cb buffer offset bytes) =
     res kind.Buffer cb buffer
     ++ dst buffer
     ∷ value (divides 4 offset && divides 4 (length bytes) && nat_le 4 (length bytes) && nat_le (length bytes) max_update)
     ∷ ends_in buffer (offset + length bytes) ∷ []
-command_checks (CmdCopyBuffer cb source target regions) =
+command_checks (Event.CmdCopyBuffer cb source target regions) =
     copied cb kind.Buffer source kind.Buffer target ++ between 1 max_regions regions
     ++ map (λ r. value (is_positive r.size)) regions ++ flat_map (buffer_region_in source target) regions
-command_checks (CmdCopyImage cb source source_layout target target_layout regions) =
+command_checks (Event.CmdCopyImage cb source source_layout target target_layout regions) =
     copied cb kind.Image source kind.Image target
     ++ value (is_among source_layout (6 ∷ 1 ∷ []) && is_among target_layout (7 ∷ 1 ∷ [])) ∷ same_texel source target
     ∷ between 1 max_regions regions
     ++ map (λ r. value (is_positive r.width && is_positive r.height)) regions ++ flat_map (image_region_in source target) regions
-command_checks (CmdCopyBufferToImage cb source target layout regions) =
+command_checks (Event.CmdCopyBufferToImage cb source target layout regions) =
     copied cb kind.Buffer source kind.Image target
     ++ value (is_among layout (7 ∷ 1 ∷ [])) ∷ mixed_regions source target regions
-command_checks (CmdCopyImageToBuffer cb source layout target regions) =
+command_checks (Event.CmdCopyImageToBuffer cb source layout target regions) =
     copied cb kind.Image source kind.Buffer target
     ++ value (is_among layout (6 ∷ 1 ∷ [])) ∷ mixed_regions target source regions
-command_checks (CmdClearColorImage cb image layout c0 c1 c2 c3) =
+command_checks (Event.CmdClearColorImage cb image layout c0 c1 c2 c3) =
     res kind.Image cb image ++ dst image ∷ value (is_among layout (7 ∷ 1 ∷ [])) ∷ uint_format image ∷ []
 command_checks _ = []
 
 -- the checks of an event's row; a command's own stand between those of its buffer
 unfoldable pub row_of : Event → List Check
-row_of (CreateInstance instance api) = new [] instance ∷ room 1 ∷ []
-row_of (DestroyInstance instance) = live kind.Instance instance ∷ childless instance ∷ []
-row_of (CreateHeadlessSurfaceEXT instance surface) = made kind.Instance instance surface ++ room 1 ∷ []
-row_of (DestroySurfaceKHR instance surface) =
+row_of (Event.CreateInstance instance api) = new [] instance ∷ room 1 ∷ []
+row_of (Event.DestroyInstance instance) = live kind.Instance instance ∷ childless instance ∷ []
+row_of (Event.CreateHeadlessSurfaceEXT instance surface) = made kind.Instance instance surface ++ room 1 ∷ []
+row_of (Event.DestroySurfaceKHR instance surface) =
     live kind.Instance instance ∷ live kind.Surface surface ∷ of surface instance ∷ bare_surface surface ∷ []
-row_of (CreateDevice instance device) = made kind.Instance instance device ++ room 1 ∷ []
-row_of (DestroyDevice device) = live kind.Device device ∷ childless_but_queue device ∷ []
-row_of (GetDeviceQueue device queue) = live kind.Device device ∷ the_queue device queue ∷ []
-row_of (AllocateMemory device memory size) =
+row_of (Event.CreateDevice instance device) = made kind.Instance instance device ++ room 1 ∷ []
+row_of (Event.DestroyDevice device) = live kind.Device device ∷ childless_but_queue device ∷ []
+row_of (Event.GetDeviceQueue device queue) = live kind.Device device ∷ the_queue device queue ∷ []
+row_of (Event.AllocateMemory device memory size) =
     made kind.Device device memory ++ value (is_positive size) ∷ room 1 ∷ room_for size ∷ []
-row_of (FreeMemory device memory) = of_device kind.Memory device memory
-row_of (MapMemory device memory offset size) =
+row_of (Event.FreeMemory device memory) = of_device kind.Memory device memory
+row_of (Event.MapMemory device memory offset size) =
     of_device kind.Memory device memory ++ value (is_positive size) ∷ span memory offset size ++ unmapped memory ∷ []
-row_of (UnmapMemory device memory) = of_device kind.Memory device memory ++ is_mapped memory ∷ []
-row_of (CreateBuffer device buffer size usage) =
+row_of (Event.UnmapMemory device memory) = of_device kind.Memory device memory ++ is_mapped memory ∷ []
+row_of (Event.CreateBuffer device buffer size usage) =
     made kind.Device device buffer ++ value (is_positive size && is_positive usage) ∷ room 1 ∷ []
-row_of (DestroyBuffer device buffer) = of_device kind.Buffer device buffer
-row_of (BindBufferMemory device buffer memory offset) =
+row_of (Event.DestroyBuffer device buffer) = of_device kind.Buffer device buffer
+row_of (Event.BindBufferMemory device buffer memory offset) =
     live kind.Device device ∷ live kind.Buffer buffer ∷ live kind.Memory memory ∷ of buffer device ∷ of memory device
     ∷ unbound buffer ∷ value (divides bind_alignment offset) ∷ rests_in buffer memory offset ∷ []
-row_of (CreateImage device image format width height usage) =
+row_of (Event.CreateImage device image format width height usage) =
     made kind.Device device image
     ++ value (is_some (format_of format) && is_positive width && is_positive height && is_positive usage)
     ∷ limit (nat_le width max_extent && nat_le height max_extent) ∷ room 1 ∷ []
-row_of (DestroyImage device image) = of_device kind.Image device image
-row_of (BindImageMemory device image memory offset) =
+row_of (Event.DestroyImage device image) = of_device kind.Image device image
+row_of (Event.BindImageMemory device image memory offset) =
     live kind.Device device ∷ live kind.Image image ∷ live kind.Memory memory ∷ of image device ∷ of memory device
     ∷ unbound image ∷ value (divides bind_alignment offset) ∷ rests_in image memory offset ∷ []
-row_of (CreateCommandPool device pool flags) = made kind.Device device pool ++ value (nat_le flags 3) ∷ room 1 ∷ []
-row_of (DestroyCommandPool device pool) = of_device kind.Pool device pool
-row_of (ResetCommandPool device pool) = of_device kind.Pool device pool
-row_of (AllocateCommandBuffers device pool buffers) =
+row_of (Event.CreateCommandPool device pool flags) = made kind.Device device pool ++ value (nat_le flags 3) ∷ room 1 ∷ []
+row_of (Event.DestroyCommandPool device pool) = of_device kind.Pool device pool
+row_of (Event.ResetCommandPool device pool) = of_device kind.Pool device pool
+row_of (Event.AllocateCommandBuffers device pool buffers) =
     of_device kind.Pool device pool ++ between 1 max_list_length buffers ++ new_each [] buffers ++ room (length buffers) ∷ []
-row_of (FreeCommandBuffers device pool buffers) =
+row_of (Event.FreeCommandBuffers device pool buffers) =
     of_device kind.Pool device pool ++ between 1 max_list_length buffers ++ live_once kind.CommandBuffer [] buffers
     ++ map (λ cb. of cb pool) buffers
-row_of (BeginCommandBuffer cb flags) =
+row_of (Event.BeginCommandBuffer cb flags) =
     live kind.CommandBuffer cb ∷ value (is_among flags (0 ∷ 1 ∷ 4 ∷ 5 ∷ [])) ∷ not_recording cb ∷ may_begin cb ∷ []
-row_of (EndCommandBuffer cb) = live kind.CommandBuffer cb ∷ recording cb ∷ []
-row_of (ResetCommandBuffer cb) = live kind.CommandBuffer cb ∷ may_reset cb ∷ []
-row_of (CreateFence device fence flags) = made kind.Device device fence ++ value (nat_le flags 1) ∷ room 1 ∷ []
-row_of (DestroyFence device fence) = of_device kind.Fence device fence
-row_of (ResetFences device fences) =
+row_of (Event.EndCommandBuffer cb) = live kind.CommandBuffer cb ∷ recording cb ∷ []
+row_of (Event.ResetCommandBuffer cb) = live kind.CommandBuffer cb ∷ may_reset cb ∷ []
+row_of (Event.CreateFence device fence flags) = made kind.Device device fence ++ value (nat_le flags 1) ∷ room 1 ∷ []
+row_of (Event.DestroyFence device fence) = of_device kind.Fence device fence
+row_of (Event.ResetFences device fences) =
     live kind.Device device ∷ between 1 max_list_length fences ++ map (live kind.Fence) fences ++ map (λ f. of f device) fences
-row_of (WaitForFences device fences wait_all answer) =
+row_of (Event.WaitForFences device fences wait_all answer) =
     live kind.Device device ∷ between 1 max_list_length fences ++ map (live kind.Fence) fences ++ map (λ f. of f device) fences
     ++ value (nat_le wait_all 1 && is_among answer (0 ∷ 2 ∷ []))
     ∷ (if wait_all == 1 then tells_all (answer == 0) fences else tells_some (answer == 0) fences) ∷ []
-row_of (GetFenceStatus device fence answer) =
+row_of (Event.GetFenceStatus device fence answer) =
     of_device kind.Fence device fence ++ value (nat_le answer 1) ∷ tells_all (answer == 0) (fence ∷ []) ∷ []
-row_of (CreateSemaphore device semaphore) = made kind.Device device semaphore ++ room 1 ∷ []
-row_of (DestroySemaphore device semaphore) = of_device kind.Semaphore device semaphore
-row_of (QueueSubmit queue submits fence) =
+row_of (Event.CreateSemaphore device semaphore) = made kind.Device device semaphore ++ room 1 ∷ []
+row_of (Event.DestroySemaphore device semaphore) = of_device kind.Semaphore device semaphore
+row_of (Event.QueueSubmit queue submits fence) =
     live kind.Queue queue ∷ between 0 max_submits submits ++ flat_map submit_lengths submits
     ++ flat_map (submit_near queue) submits
     ++ (if fence == 0 then [] else live kind.Fence fence ∷ near fence queue ∷ [])
     ++ must CommandState (is_distinct (flat_map (λ s. s.cbs) submits)) ∷ in_turn (turns_of submits fence) ∷ []
-row_of (QueueWaitIdle queue) = live kind.Queue queue ∷ []
-row_of (DeviceWaitIdle device) = live kind.Device device ∷ []
-row_of (CreateSwapchainKHR device swapchain surface images format width height usage) =
+row_of (Event.QueueWaitIdle queue) = live kind.Queue queue ∷ []
+row_of (Event.DeviceWaitIdle device) = live kind.Device device ∷ []
+row_of (Event.CreateSwapchainKHR device swapchain surface images format width height usage) =
     live kind.Device device ∷ live kind.Surface surface ∷ same_instance device surface ∷ new [] swapchain ∷ free_surface surface
     ∷ value (is_positive images && is_positive width && is_positive height && is_positive usage && is_some (format_of format))
     ∷ limit (nat_le images max_swapchain_images && nat_le width max_extent && nat_le height max_extent)
     ∷ room 1 ∷ room_for (images * image_size format width height) ∷ []
-row_of (DestroySwapchainKHR device swapchain) = of_device kind.Swapchain device swapchain
-row_of (GetSwapchainImagesKHR device swapchain images) =
+row_of (Event.DestroySwapchainKHR device swapchain) = of_device kind.Swapchain device swapchain
+row_of (Event.GetSwapchainImagesKHR device swapchain images) =
     of_device kind.Swapchain device swapchain ++ the_images swapchain images ∷ []
-row_of (AcquireNextImageKHR device swapchain semaphore fence index answer) =
+row_of (Event.AcquireNextImageKHR device swapchain semaphore fence index answer) =
     of_device kind.Swapchain device swapchain ++ value (not (semaphore == 0) || not (fence == 0))
     ∷ to_signal kind.Semaphore device semaphore ++ to_signal kind.Fence device fence
     ++ value (nat_le answer 1) ∷ acquire_answer swapchain index answer
-row_of (QueuePresentKHR queue waits presents) =
+row_of (Event.QueuePresentKHR queue waits presents) =
     live kind.Queue queue ∷ between 0 max_semaphores waits ++ near_each kind.Semaphore queue waits
     ++ between 1 max_presents presents ++ near_each kind.Swapchain queue (map (λ p. p.swapchain) presents)
     ++ value (is_distinct (map (λ p. p.swapchain) presents))
@@ -281,15 +280,15 @@ row_of (QueuePresentKHR queue waits presents) =
     ++ map (λ p. is_acquired p.swapchain p.index) presents
     ++ map (λ p. presentable p.swapchain p.index) presents
     ++ in_turn (map wait waits) ∷ frame_room ∷ []
-row_of (FillMemory memory offset bytes) =
+row_of (Event.FillMemory memory offset bytes) =
     live kind.Memory memory ∷ value (is_positive (length bytes)) ∷ may_fill memory ∷ fill_in memory offset (length bytes) ∷ []
-row_of (InitImage image layout bytes) =
+row_of (Event.InitImage image layout bytes) =
     live kind.Image image ∷ usable image ∷ value (is_layout layout) ∷ image_bytes image (length bytes) ∷ []
-row_of (SetSwapchainState swapchain acquired) =
+row_of (Event.SetSwapchainState swapchain acquired) =
     live kind.Swapchain swapchain ∷ one_each swapchain (length acquired) ∷ map (λ a. value (nat_le a 1)) acquired
-row_of (SetSemaphoreState semaphore signalled) = live kind.Semaphore semaphore ∷ value (nat_le signalled 1) ∷ []
-row_of (BeginSection frame) = at_start ∷ value (is_positive frame && nat_le frame max_frame) ∷ []
-row_of (EndSection frame) = inside ∷ ends_frame frame ∷ []
+row_of (Event.SetSemaphoreState semaphore signalled) = live kind.Semaphore semaphore ∷ value (nat_le signalled 1) ∷ []
+row_of (Event.BeginSection frame) = at_start ∷ value (is_positive frame && nat_le frame max_frame) ∷ []
+row_of (Event.EndSection frame) = inside ∷ ends_frame frame ∷ []
 row_of command = recorded (cb_of command) command (command_checks command)
 
 -- all checks of an event

@@ -21,7 +21,7 @@ use Rattle.gfx_model.specs.Checks.{broken, unless}
 use Rattle.gfx_model.specs.Table.{divides}
 use Rattle.gfx_model.specs.Views.{View}
 use Rattle.gfx_model.proofs.Covered.{unless_none}
-use Rattle.gfx_laws.specs.Lawful.{cb_of, CommandPasses, command_checks}
+use Rattle.gfx_laws.specs.Lawful.{cb_of, CommandPasses}
 
 abbrev pub field_size : Field → ℕ
 field_size (id n) = 8

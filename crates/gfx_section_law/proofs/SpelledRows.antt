@@ -5,7 +5,6 @@ use Rattle.std.specs.List.{AllByRecursion, range_with_len}
 use Rattle.std.specs.Option.{option_map_or}
 use Rattle.gfx_types.specs.declared.op.Place.{Place}
 use Rattle.gfx_model.specs.Events.{Event}
-use Rattle.gfx_model.specs.Events.Event.{CreateInstance, DestroyInstance, CreateHeadlessSurfaceEXT, DestroySurfaceKHR, CreateDevice, DestroyDevice, GetDeviceQueue, AllocateMemory, FreeMemory, MapMemory, UnmapMemory, CreateBuffer, DestroyBuffer, BindBufferMemory, CreateImage, DestroyImage, BindImageMemory, CreateCommandPool, DestroyCommandPool, ResetCommandPool, AllocateCommandBuffers, FreeCommandBuffers, BeginCommandBuffer, EndCommandBuffer, ResetCommandBuffer, CmdPipelineBarrier, CmdFillBuffer, CmdUpdateBuffer, CmdCopyBuffer, CmdCopyImage, CmdCopyBufferToImage, CmdCopyImageToBuffer, CmdClearColorImage, CreateFence, DestroyFence, ResetFences, CreateSemaphore, DestroySemaphore, QueueSubmit, CreateSwapchainKHR, DestroySwapchainKHR, GetSwapchainImagesKHR, AcquireNextImageKHR, QueuePresentKHR, FillMemory, InitImage, SetSwapchainState, SetSemaphoreState, BeginSection, EndSection}
 use Rattle.gfx_model.specs.Spelling.{FieldFits, HasSpelling, fields_of, id_fields}
 use Rattle.gfx_model.specs.Steps.{Step, Object, Detail, Change}
 use Rattle.gfx_model.specs.Steps.Step.{creates, ends, changes, executed, signals, unsignals, acquires, gives_back, presents}
@@ -56,17 +55,17 @@ both_spelled s t f each = inside_spelled s (λ a. inside_of t (f a)) (λ a. insi
 
 command_spelled : (m : ℕ) (v : View) (c : Event) → HasSpelling m c → AllByRecursion SpelledChange (changes_of_command v c)
 unfolding changes_of_command fields_of
-command_spelled m v (CmdPipelineBarrier cb barriers) h = all_map SpelledChange barrier_change (λ b. tt) barriers
-command_spelled m v (CmdFillBuffer cb buffer offset size word) h = inside_spelled (window v buffer) _ (λ w. (tt, tt))
-command_spelled m v (CmdUpdateBuffer cb buffer offset bytes) h = inside_spelled (window v buffer) _ (λ w. ((h.fields).1.1.1.0.1, tt))
-command_spelled m v (CmdCopyBuffer cb source target regions) h = both_spelled (window v source) (window v target) _ (λ s t. all_map SpelledChange (buffer_copy s t) (λ r. tt) regions)
-command_spelled m v (CmdCopyImage cb source source_layout target target_layout regions) h =
+command_spelled m v (Event.CmdPipelineBarrier cb barriers) h = all_map SpelledChange barrier_change (λ b. tt) barriers
+command_spelled m v (Event.CmdFillBuffer cb buffer offset size word) h = inside_spelled (window v buffer) _ (λ w. (tt, tt))
+command_spelled m v (Event.CmdUpdateBuffer cb buffer offset bytes) h = inside_spelled (window v buffer) _ (λ w. ((h.fields).1.1.1.0.1, tt))
+command_spelled m v (Event.CmdCopyBuffer cb source target regions) h = both_spelled (window v source) (window v target) _ (λ s t. all_map SpelledChange (buffer_copy s t) (λ r. tt) regions)
+command_spelled m v (Event.CmdCopyImage cb source source_layout target target_layout regions) h =
     both_spelled (window v source) (window v target) _ (λ s t. all_flat_map SpelledChange (image_copy v source target s t) (λ r. rows_spelled _ _ _ _ _ _ _ _) regions)
-command_spelled m v (CmdCopyBufferToImage cb source target layout regions) h =
+command_spelled m v (Event.CmdCopyBufferToImage cb source target layout regions) h =
     both_spelled (window v source) (window v target) _ (λ s t. all_flat_map SpelledChange (upload v target s t) (λ r. rows_spelled _ _ _ _ _ _ _ _) regions)
-command_spelled m v (CmdCopyImageToBuffer cb source layout target regions) h =
+command_spelled m v (Event.CmdCopyImageToBuffer cb source layout target regions) h =
     both_spelled (window v source) (window v target) _ (λ s t. all_flat_map SpelledChange (download v source s t) (λ r. rows_spelled _ _ _ _ _ _ _ _) regions)
-command_spelled m v (CmdClearColorImage cb image layout c0 c1 c2 c3) h = inside_spelled (window v image) _ (λ w. (tt, tt))
+command_spelled m v (Event.CmdClearColorImage cb image layout c0 c1 c2 c3) h = inside_spelled (window v image) _ (λ w. (tt, tt))
 command_spelled m v _ h = tt
 
 commands_spelled : (m : ℕ) (v : View) (cs : List Event) → AllByRecursion (HasSpelling m) cs → AllByRecursion SpelledChange (flat_map (changes_of_command v) cs)
@@ -148,61 +147,61 @@ module _ (m : ℕ) (v : View) (es : List Change) (h : IsSpelled m v es) where
 
   row_spelled : (e : Event) → HasSpelling m e → All (effect_of v e)
   unfolding effect_of fields_of
-  row_spelled (CreateInstance instance api) s = let a = s.fields in ((a.0, omega arith, a.1.0), tt)
-  row_spelled (DestroyInstance a) s = (tt, tt)
-  row_spelled (CreateHeadlessSurfaceEXT instance surface) s = let a = s.fields in ((a.1.0, a.0, tt), tt)
-  row_spelled (DestroySurfaceKHR a b) s = (tt, tt)
-  row_spelled (CreateDevice instance device) s = let a = s.fields in ((a.1.0, a.0, tt), tt)
-  row_spelled (DestroyDevice a) s = (tt, tt)
-  row_spelled (GetDeviceQueue device queue) s = let a = s.fields in if_list (SpelledStep m) (is_some (queue_of v device)) [] (creates queue device a_queue ∷ []) tt ((a.1.0, a.0, tt), tt)
-  row_spelled (AllocateMemory device memory size) s = let a = s.fields in ((a.1.0, a.0, a.1.1.0), tt)
-  row_spelled (FreeMemory a b) s = (tt, tt)
-  row_spelled (MapMemory a b c d) s = (tt, tt)
-  row_spelled (UnmapMemory a b) s = (tt, tt)
-  row_spelled (CreateBuffer device buffer size usage) s = let a = s.fields in ((a.1.0, a.0, (a.1.1.0, a.1.1.1.0)), tt)
-  row_spelled (DestroyBuffer a b) s = (tt, tt)
-  row_spelled (BindBufferMemory device buffer memory offset) s = let a = s.fields in ((a.1.1.0, a.1.1.1.0), tt)
-  row_spelled (CreateImage device image format width height usage) s = let a = s.fields in ((a.1.0, a.0, (a.1.1.0, a.1.1.1.0, a.1.1.1.1.0, a.1.1.1.1.1.0)), tt)
-  row_spelled (DestroyImage a b) s = (tt, tt)
-  row_spelled (BindImageMemory device image memory offset) s = let a = s.fields in ((a.1.1.0, a.1.1.1.0), tt)
-  row_spelled (CreateCommandPool device pool flags) s = let a = s.fields in ((a.1.0, a.0, a.1.1.0), tt)
-  row_spelled (DestroyCommandPool a b) s = (tt, tt)
-  row_spelled (ResetCommandPool a b) s = (tt, tt)
-  row_spelled (AllocateCommandBuffers device pool buffers) s = let a = s.fields in ids_spelled pool buffers a.1.0 a.1.1.1
-  row_spelled (FreeCommandBuffers device pool buffers) s = all_map (SpelledStep m) ends (λ cb. tt) buffers
-  row_spelled (BeginCommandBuffer a b) s = (tt, tt)
-  row_spelled (EndCommandBuffer a) s = (tt, tt)
-  row_spelled (ResetCommandBuffer a) s = (tt, tt)
-  row_spelled (CmdPipelineBarrier a b) s = (s, tt)
-  row_spelled (CmdFillBuffer a b c d e) s = (s, tt)
-  row_spelled (CmdUpdateBuffer a b c d) s = (s, tt)
-  row_spelled (CmdCopyBuffer a b c d) s = (s, tt)
-  row_spelled (CmdCopyImage a b c d e f) s = (s, tt)
-  row_spelled (CmdCopyBufferToImage a b c d e) s = (s, tt)
-  row_spelled (CmdCopyImageToBuffer a b c d e) s = (s, tt)
-  row_spelled (CmdClearColorImage a b c d e f g) s = (s, tt)
-  row_spelled (CreateFence device fence flags) s = let a = s.fields in ((a.1.0, a.0, tt), if_list (SpelledStep m) (flags == 1) (signals fence ∷ []) [] (tt, tt) tt)
-  row_spelled (DestroyFence a b) s = (tt, tt)
-  row_spelled (ResetFences device fences) s = all_map (SpelledStep m) unsignals (λ f. tt) fences
-  row_spelled (CreateSemaphore device semaphore) s = let a = s.fields in ((a.1.0, a.0, tt), tt)
-  row_spelled (DestroySemaphore a b) s = (tt, tt)
-  row_spelled (QueueSubmit queue submits fence) s = turns_spelled (turns_of submits fence)
-  row_spelled (CreateSwapchainKHR device swapchain surface images format width height usage) s =
+  row_spelled (Event.CreateInstance instance api) s = let a = s.fields in ((a.0, omega arith, a.1.0), tt)
+  row_spelled (Event.DestroyInstance a) s = (tt, tt)
+  row_spelled (Event.CreateHeadlessSurfaceEXT instance surface) s = let a = s.fields in ((a.1.0, a.0, tt), tt)
+  row_spelled (Event.DestroySurfaceKHR a b) s = (tt, tt)
+  row_spelled (Event.CreateDevice instance device) s = let a = s.fields in ((a.1.0, a.0, tt), tt)
+  row_spelled (Event.DestroyDevice a) s = (tt, tt)
+  row_spelled (Event.GetDeviceQueue device queue) s = let a = s.fields in if_list (SpelledStep m) (is_some (queue_of v device)) [] (creates queue device a_queue ∷ []) tt ((a.1.0, a.0, tt), tt)
+  row_spelled (Event.AllocateMemory device memory size) s = let a = s.fields in ((a.1.0, a.0, a.1.1.0), tt)
+  row_spelled (Event.FreeMemory a b) s = (tt, tt)
+  row_spelled (Event.MapMemory a b c d) s = (tt, tt)
+  row_spelled (Event.UnmapMemory a b) s = (tt, tt)
+  row_spelled (Event.CreateBuffer device buffer size usage) s = let a = s.fields in ((a.1.0, a.0, (a.1.1.0, a.1.1.1.0)), tt)
+  row_spelled (Event.DestroyBuffer a b) s = (tt, tt)
+  row_spelled (Event.BindBufferMemory device buffer memory offset) s = let a = s.fields in ((a.1.1.0, a.1.1.1.0), tt)
+  row_spelled (Event.CreateImage device image format width height usage) s = let a = s.fields in ((a.1.0, a.0, (a.1.1.0, a.1.1.1.0, a.1.1.1.1.0, a.1.1.1.1.1.0)), tt)
+  row_spelled (Event.DestroyImage a b) s = (tt, tt)
+  row_spelled (Event.BindImageMemory device image memory offset) s = let a = s.fields in ((a.1.1.0, a.1.1.1.0), tt)
+  row_spelled (Event.CreateCommandPool device pool flags) s = let a = s.fields in ((a.1.0, a.0, a.1.1.0), tt)
+  row_spelled (Event.DestroyCommandPool a b) s = (tt, tt)
+  row_spelled (Event.ResetCommandPool a b) s = (tt, tt)
+  row_spelled (Event.AllocateCommandBuffers device pool buffers) s = let a = s.fields in ids_spelled pool buffers a.1.0 a.1.1.1
+  row_spelled (Event.FreeCommandBuffers device pool buffers) s = all_map (SpelledStep m) ends (λ cb. tt) buffers
+  row_spelled (Event.BeginCommandBuffer a b) s = (tt, tt)
+  row_spelled (Event.EndCommandBuffer a) s = (tt, tt)
+  row_spelled (Event.ResetCommandBuffer a) s = (tt, tt)
+  row_spelled (Event.CmdPipelineBarrier a b) s = (s, tt)
+  row_spelled (Event.CmdFillBuffer a b c d e) s = (s, tt)
+  row_spelled (Event.CmdUpdateBuffer a b c d) s = (s, tt)
+  row_spelled (Event.CmdCopyBuffer a b c d) s = (s, tt)
+  row_spelled (Event.CmdCopyImage a b c d e f) s = (s, tt)
+  row_spelled (Event.CmdCopyBufferToImage a b c d e) s = (s, tt)
+  row_spelled (Event.CmdCopyImageToBuffer a b c d e) s = (s, tt)
+  row_spelled (Event.CmdClearColorImage a b c d e f g) s = (s, tt)
+  row_spelled (Event.CreateFence device fence flags) s = let a = s.fields in ((a.1.0, a.0, tt), if_list (SpelledStep m) (flags == 1) (signals fence ∷ []) [] (tt, tt) tt)
+  row_spelled (Event.DestroyFence a b) s = (tt, tt)
+  row_spelled (Event.ResetFences device fences) s = all_map (SpelledStep m) unsignals (λ f. tt) fences
+  row_spelled (Event.CreateSemaphore device semaphore) s = let a = s.fields in ((a.1.0, a.0, tt), tt)
+  row_spelled (Event.DestroySemaphore a b) s = (tt, tt)
+  row_spelled (Event.QueueSubmit queue submits fence) s = turns_spelled (turns_of submits fence)
+  row_spelled (Event.CreateSwapchainKHR device swapchain surface images format width height usage) s =
       let a = s.fields in ((a.1.0, a.0, (a.1.1.0, a.1.1.1.0, a.1.1.1.1.0, a.1.1.1.1.1.0, a.1.1.1.1.1.1.0, a.1.1.1.1.1.1.1.0)), tt)
-  row_spelled (DestroySwapchainKHR a b) s = (tt, tt)
-  row_spelled (GetSwapchainImagesKHR device swapchain images) s = let a = s.fields in first_spelled (fetched v swapchain) _ (fetches_spelled swapchain 0 images a.1.0 a.1.1.1)
-  row_spelled (AcquireNextImageKHR device swapchain semaphore fence index answer) s =
+  row_spelled (Event.DestroySwapchainKHR a b) s = (tt, tt)
+  row_spelled (Event.GetSwapchainImagesKHR device swapchain images) s = let a = s.fields in first_spelled (fetched v swapchain) _ (fetches_spelled swapchain 0 images a.1.0 a.1.1.1)
+  row_spelled (Event.AcquireNextImageKHR device swapchain semaphore fence index answer) s =
       if_list (SpelledStep m) (answer == 1) [] (acquires swapchain index ∷ signals_any semaphore ++ signals_any fence) tt
       (tt, all_append (SpelledStep m) (signals_any semaphore) (signals_any fence) (signals_spelled semaphore) (signals_spelled fence))
-  row_spelled (QueuePresentKHR queue waits images) s =
+  row_spelled (Event.QueuePresentKHR queue waits images) s =
       all_append (SpelledStep m) (flat_map (steps_of_turn v) (map wait waits) ++ map (λ p. gives_back p.swapchain p.index) images) (presents ∷ [])
       (all_append (SpelledStep m) (flat_map (steps_of_turn v) (map wait waits)) _ (turns_spelled (map wait waits)) (all_map (SpelledStep m) (λ p. gives_back p.swapchain p.index) (λ p. tt) images)) (tt, tt)
-  row_spelled (FillMemory memory offset bytes) s = let a = s.fields in (a.1.1.0.1, tt)
-  row_spelled (InitImage image layout bytes) s = let a = s.fields in (tt, init_spelled (v.live image) image bytes a.1.1.0.1)
-  row_spelled (SetSwapchainState swapchain acquired) s = marks_spelled swapchain 0 acquired
-  row_spelled (SetSemaphoreState semaphore signalled) s = (if_step (SpelledStep m) (signalled == 1) (signals semaphore) (unsignals semaphore) tt tt, tt)
-  row_spelled (BeginSection a) s = (tt, tt)
-  row_spelled (EndSection a) s = (tt, tt)
+  row_spelled (Event.FillMemory memory offset bytes) s = let a = s.fields in (a.1.1.0.1, tt)
+  row_spelled (Event.InitImage image layout bytes) s = let a = s.fields in (tt, init_spelled (v.live image) image bytes a.1.1.0.1)
+  row_spelled (Event.SetSwapchainState swapchain acquired) s = marks_spelled swapchain 0 acquired
+  row_spelled (Event.SetSemaphoreState semaphore signalled) s = (if_step (SpelledStep m) (signalled == 1) (signals semaphore) (unsignals semaphore) tt tt, tt)
+  row_spelled (Event.BeginSection a) s = (tt, tt)
+  row_spelled (Event.EndSection a) s = (tt, tt)
   row_spelled _ s = tt
 
 spelled_start : (m : ℕ) → IsSpelled m (view_of []) (executed_changes [])
