@@ -14,7 +14,7 @@ use Rattle.gfx_objects.specs.Object.{layout_of}
 use Rattle.gfx_objects.specs.Objects.{Kept, answers}
 use Rattle.gfx_commands.specs.declared.uses.Use.{Use}
 use Rattle.gfx_commands.specs.Uses.{IsIndex, plain, use_of, suits}
-use Rattle.gfx_commands.specs.Layouts.{asked_in, cbs_at, executed_before, layouts_by}
+use Rattle.gfx_model.specs.Layouts.{asked_in, cbs_at, executed_before, layouts_by}
 use Rattle.gfx_commands.proofs.Index.{layouts_after-append}
 
 pub layout_at : (k : Kept) (id : ℕ) (o : Option Object) → map.get k.rows id ≡ o → (answers k).layout id ≡ option_map_or (λ o. layout_of o.detail) o 0

@@ -5,6 +5,5 @@ pub mod Inside
 pub mod Recording
 pub mod Recordings
 pub mod Counted
-pub mod Layouts
 pub mod Runnable
 pub mod Distinct

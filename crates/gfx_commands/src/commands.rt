@@ -9,7 +9,6 @@ ghost use Rattle.gfx_model.specs.Checks.{layouts_of};
 ghost use Rattle.gfx_model.specs.After.{is_lost};
 ghost use Rattle.gfx_objects.specs.Objects.{answers};
 ghost use Rattle.gfx_ops.specs.Operations.{ops_of_command};
-ghost use Rattle.gfx_ops.specs.Laws.{WindowsEnd};
 ghost use Rattle.gfx_commands.specs.Runnable.{IsRunnable};
 ghost use Rattle.gfx_commands.specs.Recorded.{IsRecorded};
 ghost use Rattle.gfx_commands.specs.Uses.{IsIndex};
@@ -108,8 +107,7 @@ impl Commands {
         objects: &Objects,
         ops: &mut OpList,
     ) -> Result<(), WantMemory>
-        requires each { AllByRecursion (IsRunnable (answers objects.now)) (events_in self.now) }
-        requires windows { WindowsEnd (answers objects.now) }
+        requires { AllByRecursion (IsRunnable (answers objects.now)) (events_in self.now) }
         ensures ok { OnOk result (ops.new ≡ ops.old ++ flat_map (ops_of_command (answers objects.now)) (events_in self.now)) }
         ensures err { OnErr result (take (length ops.old) ops.new ≡ ops.old) }
     {

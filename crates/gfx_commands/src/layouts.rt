@@ -6,12 +6,12 @@ ghost use Rattle.gfx_objects.specs.Object.{layout_of as layout_in};
 ghost use Rattle.gfx_objects.specs.Objects.{answers};
 ghost use Rattle.gfx_commands.specs.Uses.{use_of, suits};
 ghost use Rattle.gfx_commands.specs.Recordings.{buffers};
-ghost use Rattle.gfx_commands.specs.Layouts.{asked_in, cbs_at, executed_before, layouts_by};
+ghost use Rattle.gfx_model.specs.Layouts.{asked_in, cbs_at, executed_before, layouts_by};
 
 use crate::recordings::Recordings;
 use crate::uses::Uses;
 use gfx_objects::{Detail, Objects};
-use gfx_types::Submit;
+use gfx_types::{Submit, Submits};
 
 // The layout of an image with these parameters, UNDEFINED of anything else.
 fn layout_in(detail: &Detail) -> u32
@@ -36,17 +36,13 @@ fn layout_of(objects: &Objects, image: u64) -> u32
 impl Recordings {
     /// Whether the buffer at a place of a call meets a layout other than the one that it asks for, after all that the call
     /// executes before it.
-    pub fn layout_differs(
-        &self,
-        submits: &[Submit],
-        submit: usize,
-        at: usize,
-        objects: &Objects,
-    ) -> bool
+    pub fn layout_differs(&self, submits: &Submits, submit: u32, at: u32, objects: &Objects) -> bool
         requires submit { submit < length submits.now }
         requires at { at < length (cbs_at submits.now submit) }
         ensures { result ≡ not (meets (layouts_by (buffers self.now) (answers objects.now).layout (executed_before submits.now submit at)) (asked_in (buffers self.now) (slice_index (cbs_at submits.now submit) at))) }
     {
+        let submits = submits.items();
+        let (submit, at) = (submit as usize, at as usize);
         let cb = submits[submit].cbs.items()[at];
         match self.uses(cb) {
             Some(uses) => !uses.agrees || self.image_differs(uses, submits, submit, at, objects),

@@ -4,7 +4,6 @@ ghost use Rattle.gfx_model.specs.Events.{event_of_call};
 ghost use Rattle.gfx_model.specs.Spelling.{HasSpelling};
 ghost use Rattle.gfx_objects.specs.Objects.{answers};
 ghost use Rattle.gfx_ops.specs.Operations.{ops_of_command};
-ghost use Rattle.gfx_ops.specs.Laws.{WindowsEnd};
 ghost use Rattle.gfx_commands.specs.Recorded.{event_in, IsRecorded};
 ghost use Rattle.gfx_commands.specs.Runnable.{IsRunnable};
 
@@ -45,7 +44,6 @@ impl Recorded {
     ) -> Result<(), WantMemory>
         requires recorded { IsRecorded self.now }
         requires runs { IsRunnable (answers objects.now) (event_in self.now) }
-        requires windows { WindowsEnd (answers objects.now) }
         ensures ok { OnOk result (ops.new ≡ ops.old ++ ops_of_command (answers objects.now) (event_in self.now)) }
         ensures err { OnErr result (take (length ops.old) ops.new ≡ ops.old) }
     {

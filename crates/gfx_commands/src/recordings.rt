@@ -13,13 +13,12 @@ ghost use Rattle.gfx_model.specs.Checks.{is_recording, is_distinct};
 ghost use Rattle.gfx_model.specs.After.{is_gone, is_lost, buffer_after_end};
 ghost use Rattle.gfx_objects.specs.Objects.{answers};
 ghost use Rattle.gfx_ops.specs.Operations.{ops_of_command};
-ghost use Rattle.gfx_ops.specs.Laws.{WindowsEnd};
 ghost use Rattle.gfx_commands.specs.Runnable.{IsRunnable};
 ghost use Rattle.gfx_commands.specs.declared.recording.Recording.{Recording};
 ghost use Rattle.gfx_commands.specs.Recorded.{event_in, IsRecorded};
 ghost use Rattle.gfx_commands.specs.Recording.{state_of, buffer_of, names};
 ghost use Rattle.gfx_commands.specs.Uses.{IsIndex};
-ghost use Rattle.gfx_commands.specs.Layouts.{asked_in};
+ghost use Rattle.gfx_model.specs.Layouts.{asked_in};
 ghost use Rattle.gfx_commands.specs.Recordings.{buffers, commands_total, bytes_total, HoldsKept};
 
 use crate::lost::{is_gone, is_in_pool};
@@ -250,11 +249,9 @@ impl Recordings {
     }
 
     /// Appends what the commands of a buffer do to a list of operations. Each of them breaks no check of its row but
-    /// perhaps that its buffer is recording and that there is room, and each usable resource ends within the limit on
-    /// live bytes. For want of memory the list is as it was.
+    /// perhaps that its buffer is recording and that there is room. For want of memory the list is as it was.
     pub fn expand(&self, cb: u64, objects: &Objects, ops: &mut OpList) -> Result<(), WantMemory>
-        requires each { AllByRecursion (IsRunnable (answers objects.now)) (buffers self.now cb).commands }
-        requires windows { WindowsEnd (answers objects.now) }
+        requires { AllByRecursion (IsRunnable (answers objects.now)) (buffers self.now cb).commands }
         ensures ok { OnOk result (ops.new ≡ ops.old ++ flat_map (ops_of_command (answers objects.now)) (buffers self.now cb).commands) }
         ensures err { OnErr result (ops.new ≡ ops.old) }
     {

@@ -8,10 +8,12 @@ use Rattle.std.proofs.lemmas.Option.{same_Some}
 use Rattle.gfx_types.specs.declared.names.Kind.{Kind}
 use Rattle.gfx_table.specs.Used.{holds}
 use Rattle.gfx_model.specs.Steps.{kind_number}
-use Rattle.gfx_model.specs.Views.{detail_bytes}
+use Rattle.gfx_model.specs.Steps.{Detail}
+use Rattle.gfx_model.specs.Questions.{Binding}
+use Rattle.gfx_model.specs.Views.{detail_size, detail_bytes}
 use Rattle.gfx_objects.specs.declared.object.Object.{Object}
-use Rattle.gfx_objects.specs.Object.{detail_of}
-use Rattle.gfx_objects.specs.Objects.{Kept, IsRow, IsSound, IsIndexed, of_kind, children_in, bytes_in}
+use Rattle.gfx_objects.specs.Object.{detail_of, bound_of}
+use Rattle.gfx_objects.specs.Objects.{Kept, IsRow, RestsIn, IsSound, IsIndexed, of_kind, children_in, bytes_in}
 use Rattle.gfx_objects.proofs.Index.{kind_created, total_created, len_created, kind_removed, total_removed, len_removed, kind_changed, total_changed, len_changed, at_insert, at_remove}
 
 -- a row that isn't used isn't live
@@ -27,6 +29,12 @@ unused_fresh k sound id unused = cases (map.get k.rows id) refl
 pub sound_same : (k n : Kept) → n.rows ≡ k.rows → holds n.used ≡ holds k.used → IsSound k → IsSound n
 sound_same k n rows used sound = record {
   row = λ id o some. sound.row id o (ap (λ m. map.get m id) (sym rows) ∙ some);
+  bound = λ id o b some is.
+      let old = sound.bound id o b (ap (λ m. map.get m id) (sym rows) ∙ some) is in
+      record {
+        used = ap (λ f. f b.memory) used ∙ old.used;
+        inside = λ m live. old.inside m (ap (λ q. map.get q b.memory) (sym rows) ∙ live);
+      };
   used = λ id some. ap (λ f. f id) used ∙ sound.used id (ap (λ m. is_some (map.get m id)) (sym rows) ∙ some);
   few = let a = ap map.len rows in let b = sound.few in omega (arith, a, b);
   small = let a = ap bytes_in rows in let b = sound.small in omega (arith, a, b);
@@ -52,23 +60,62 @@ module _ (k n : Kept) (id : ℕ) (o : Object) (rows : n.rows ≡ map.insert k.ro
           subst (λ y. IsRow y r) here (subst (λ q. IsRow id q) (same_Some o r now) is)
       cases false e now = old x r now
 
-  pub sound_created : map.get k.rows id ≡ None → holds n.used ≡ (λ other. id == other || holds k.used other) → IsRow id o
+  now_at : (x : ℕ) (r : Object) → map.get n.rows x ≡ Some r → (if id == x then Some o else map.get k.rows x) ≡ Some r
+  now_at x r some = sym (ap (λ m. map.get m x) rows ∙ at_insert k.rows id o x) ∙ some
+
+  -- a row rests where it rested, and the new one too, where all that is live under this id has these bytes
+  bound_at : holds n.used ≡ (λ other. id == other || holds k.used other)
+      → ((b : Binding) (d : Detail) → RestsIn k d b → id ≡ b.memory → b.offset + detail_size d ≤ detail_size (detail_of o.detail))
+      → ((b : Binding) → bound_of o.detail ≡ Some b → RestsIn k (detail_of o.detail) b)
+      → ((x : ℕ) (r : Object) (b : Binding) → map.get k.rows x ≡ Some r → bound_of r.detail ≡ Some b → RestsIn k (detail_of r.detail) b)
+      → (x : ℕ) (r : Object) (b : Binding) → map.get n.rows x ≡ Some r → bound_of r.detail ≡ Some b → RestsIn n (detail_of r.detail) b
+  bound_at used here own old x r b some is = goes_on r b (cases (id == x) (now_at x r some))
+    where
+      cases : (t : Bool) → (if t then Some o else map.get k.rows x) ≡ Some r → RestsIn k (detail_of r.detail) b
+      cases true now = subst (λ q. bound_of q.detail ≡ Some b → RestsIn k (detail_of q.detail) b) (same_Some o r now) (own b) is
+      cases false now = old x r b now is
+
+      goes_on : (r : Object) (b : Binding) → RestsIn k (detail_of r.detail) b → RestsIn n (detail_of r.detail) b
+      goes_on r b rests = record {
+        used = let u = ap (λ f. f b.memory) used in let was = rests.used in grind (arith, u, was);
+        inside = λ m live. inside m (id == b.memory) refl (now_at b.memory m live);
+      }
+        where
+          inside : (m : Object) (t : Bool) → (id == b.memory) ≡ t → (if t then Some o else map.get k.rows b.memory) ≡ Some m
+              → b.offset + detail_size (detail_of r.detail) ≤ detail_size (detail_of m.detail)
+          inside m true e now =
+              let same : id ≡ b.memory = grind (arith, nat_tests) in
+              subst (λ q. b.offset + detail_size (detail_of r.detail) ≤ detail_size (detail_of q.detail)) (same_Some o m now) (here b (detail_of r.detail) rests same)
+          inside m false e now = rests.inside m now
+
+  pub sound_created : holds k.used id ≡ false → holds n.used ≡ (λ other. id == other || holds k.used other) → IsRow id o → bound_of o.detail ≡ None
       → map.len k.rows < 65536 → bytes_in k.rows + detail_bytes (detail_of o.detail) ≤ 2 ^ 28 → IsSound k → IsSound n
-  sound_created none used is few small sound = record {
+  sound_created unused used is unbound few small sound = record {
     row = λ x r some. row_at x r is sound.row some;
+    bound =
+        bound_at used
+        (λ b d rests same. let was = rests.used in let at = ap (holds k.used) same in absurd (grind (arith, unused, was, at)))
+        (λ b some. absurd (grind (arith, unbound, some)))
+        sound.bound;
     used = λ x some.
         let u = ap (λ f. f x) used in
         let at = ap (λ m. map.get m x) rows ∙ at_insert k.rows id o x in
         let old = sound.used x in
         grind (arith, nat_tests, u, at, old, some);
-    few = let a = ap map.len rows in let b = len_created k.rows id o none in omega (arith, a, b, few);
-    small = let a = ap bytes_in rows in let b = total_created k.rows id o none (λ id o. detail_bytes (detail_of o.detail)) in omega (arith, a, b, small);
+    few = let a = ap map.len rows in let b = len_created k.rows id o (unused_fresh k sound id unused) in omega (arith, a, b, few);
+    small = let a = ap bytes_in rows in let b = total_created k.rows id o (unused_fresh k sound id unused) (λ id o. detail_bytes (detail_of o.detail)) in omega (arith, a, b, small);
   }
 
-  pub sound_changed : (before : Object) → map.get k.rows id ≡ Some before → n.used ≡ k.used → IsRow id o
-      → detail_bytes (detail_of o.detail) ≡ detail_bytes (detail_of before.detail) → IsSound k → IsSound n
-  sound_changed before some used is bytes sound = record {
+  pub sound_changed : (before : Object) → map.get k.rows id ≡ Some before → n.used ≡ k.used → IsRow id o → detail_of o.detail ≡ detail_of before.detail
+      → ((b : Binding) → bound_of o.detail ≡ Some b → RestsIn k (detail_of o.detail) b) → IsSound k → IsSound n
+  sound_changed before some used is parameters rests sound = record {
     row = λ x r some. row_at x r is sound.row some;
+    bound =
+        bound_at (λ i other. (still other) i)
+        (λ b d rests same.
+        let at : map.get k.rows b.memory ≡ Some before = rw (sym same) some in
+        subst (λ p. b.offset + detail_size d ≤ detail_size p) (sym parameters) (rests.inside before at))
+        rests sound.bound;
     used = λ x live.
         let u = ap (λ s. holds s x) used in
         let at = ap (λ m. map.get m x) rows ∙ at_insert k.rows id o x in
@@ -78,10 +125,18 @@ module _ (k n : Kept) (id : ℕ) (o : Object) (rows : n.rows ≡ map.insert k.ro
     few = let a = ap map.len rows in let b = len_changed k.rows id before some o in let c = sound.few in omega (arith, a, b, c);
     small =
         let a = ap bytes_in rows in
-        let b = total_changed k.rows id before some o (λ id o. detail_bytes (detail_of o.detail)) bytes in
+        let b = total_changed k.rows id before some o (λ id o. detail_bytes (detail_of o.detail)) (ap detail_bytes parameters) in
         let c = sound.small in
         omega (arith, a, b, c);
   }
+    where
+      -- the id was used before
+      still : (other : ℕ) → holds n.used other ≡ (id == other || holds k.used other)
+      still other =
+          let u = ap (λ s. holds s other) used in
+          let was = sound.used id (ap is_some some) in
+          let here : id ≡ other → holds k.used other ≡ true = λ p. rw (sym p) was in
+          grind (arith, nat_tests, u, here)
 
 module _ (m n : FinMap nat_cmp Object) (kinds kinds' : Kind → FinMap nat_cmp (Unit {0})) (children children' : ℕ → ℕ) (bytes bytes' : ℕ) (id : ℕ) (o : Object) where
   pub indexed_created : n ≡ map.insert m id o → map.get m id ≡ None
@@ -142,6 +197,13 @@ sound_removed k n id o rows some used sound = record {
   row = λ x r now.
       let at = ap (λ m. map.get m x) rows ∙ at_remove k.rows id x in
       sound.row x r (grind (arith, nat_tests, at, now));
+  bound = λ x r b now is.
+      let at = ap (λ m. map.get m x) rows ∙ at_remove k.rows id x in
+      let old = sound.bound x r b (grind (arith, nat_tests, at, now)) is in
+      record {
+        used = ap (λ s. holds s b.memory) used ∙ old.used;
+        inside = λ m live. let here = ap (λ m. map.get m b.memory) rows ∙ at_remove k.rows id b.memory in old.inside m (grind (arith, nat_tests, here, live));
+      };
   used = λ x live.
       let u = ap (λ s. holds s x) used in
       let at = ap (λ m. map.get m x) rows ∙ at_remove k.rows id x in

@@ -6,3 +6,4 @@ pub mod Steps
 pub mod Kept
 pub mod Resources
 pub mod Owned
+mod Resting

@@ -73,11 +73,11 @@ module _ (k : Kept) (id : ℕ) (o : Object) (some : map.get k.rows id ≡ Some o
 
   -- ---- windows
 
-  window_at : window (answers k) id ≡ detail_window (answers k) id (detail_of o.detail)
+  pub window_at : window (answers k) id ≡ detail_window (answers k) id (detail_of o.detail)
   unfolding answers
   window_at = ap (λ q. option_and_then (λ o. detail_window (answers k) id o.detail) (option_map made q)) some
 
-  bound_at : (d : Detail) → o.detail ≡ d → (answers k).bound id ≡ bound_of d
+  pub bound_at : (d : Detail) → o.detail ≡ d → (answers k).bound id ≡ bound_of d
   unfolding answers
   bound_at d is = ap (option_and_then (λ o. bound_of o.detail)) some ∙ ap bound_of is
 

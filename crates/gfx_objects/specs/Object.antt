@@ -2,14 +2,13 @@
 use Rattle.std.specs.Prelude.{ℕ, ◌==◌, nat_le, Bool, true, false, ◌&&◌, ◌≡◌, Option, None, option_map}
 use Rattle.gfx_objects.specs.declared.object.Object.{Object}
 use Rattle.gfx_objects.specs.declared.object.Binding.{Binding}
-use Rattle.gfx_objects.specs.declared.object.MapRange.{MapRange}
 use Rattle.gfx_objects.specs.declared.object.Window.{Window}
 use Rattle.gfx_objects.specs.declared.object.Detail.{Detail}
 use Rattle.gfx_objects.specs.declared.object.Detail.TheVariants as declared
 use Rattle.gfx_types.specs.declared.names.Kind.{Kind}
 use Rattle.gfx_model.specs.Steps.{Detail as Parameters, Object as Made, kind_of, kind_number}
 use Rattle.gfx_model.specs.Steps.Detail.{an_instance, a_surface, a_device, a_queue, a_memory, a_buffer, an_image, a_pool, a_command_buffer, a_fence, a_semaphore, a_swapchain}
-use Rattle.gfx_model.specs.Questions.{Binding as Bound, Range, is_owned}
+use Rattle.gfx_model.specs.Questions.{Binding as Bound, Range, is_owned, range_of}
 use Rattle.gfx_model.specs.Views.{Window as Shown}
 
 -- the parameters of an object's creation
@@ -30,10 +29,6 @@ detail_of (declared.Swapchain surface images format width height usage) = a_swap
 -- a binding in the words of the questions
 abbrev pub binding_of : Binding → Bound
 binding_of b = record { memory = b.memory; offset = b.offset }
-
--- a mapped range in the words of the questions
-abbrev pub range_of : MapRange → Range
-range_of r = record { offset = r.offset; length = r.length }
 
 -- a window in the words of the questions
 abbrev pub window_of : Window → Shown

@@ -1,5 +1,5 @@
 -- What is kept of all objects, and what it answers to the questions of a capture.
-use Rattle.std.specs.Prelude.{◌≡◌, ℕ, ◌<◌, ◌≤◌, ◌==◌, ◌^◌, nat_lt, ◌&&◌, true, false, find, Option, Some, None, is_some, option_map, option_and_then, if◌then◌else◌, refl}
+use Rattle.std.specs.Prelude.{◌≡◌, ℕ, ◌+◌, ◌<◌, ◌≤◌, ◌==◌, ◌^◌, nat_lt, ◌&&◌, true, false, find, Option, Some, None, is_some, option_map, option_and_then, if◌then◌else◌, refl}
 use Rattle.std.specs.Option.{option_map_or}
 use Rattle.std.specs.Ordering.{nat_cmp}
 use Rattle.std.specs.Coded.{Coded, code_by, coded×, coded_ℕ}
@@ -10,9 +10,9 @@ use Rattle.gfx_table.specs.Slots.{Slots, slots_code}
 use Rattle.gfx_table.specs.Used.{holds}
 use Rattle.gfx_table.specs.Values.{with_rows}
 use Rattle.gfx_table.specs.Rows.{total}
-use Rattle.gfx_model.specs.Steps.{kind_of, kind_number}
-use Rattle.gfx_model.specs.Questions.{new_buffer}
-use Rattle.gfx_model.specs.Views.{View, is_live, detail_bytes}
+use Rattle.gfx_model.specs.Steps.{Detail, kind_of, kind_number}
+use Rattle.gfx_model.specs.Questions.{Binding, new_buffer}
+use Rattle.gfx_model.specs.Views.{View, is_live, detail_size, detail_bytes}
 use Rattle.gfx_objects.specs.declared.object.Object.{Object}
 use Rattle.gfx_objects.specs.Object.{made, detail_of, bound_of, mapped_of, layout_of, is_within}
 
@@ -59,9 +59,16 @@ pub record IsRow (id : ℕ) (o : Object) : Type 0 where
   pub same_kind : o.kind ≡ kind_of (detail_of o.detail)
   pub within : is_within (detail_of o.detail) ≡ true
 
--- What always holds: each row has its own id and kind, its id was used, and the limits on objects and bytes are kept.
+-- what is bound so was bound to a memory that was live, and ends inside it as long as it is
+pub record RestsIn (k : Kept) (d : Detail) (b : Binding) : Type 0 where
+  pub used : holds k.used b.memory ≡ true
+  pub inside : (m : Object) → map.get k.rows b.memory ≡ Some m → b.offset + detail_size d ≤ detail_size (detail_of m.detail)
+
+-- What always holds: each row has its own id and kind, and ends inside the memory to which it is bound, its id was used,
+-- and the limits on objects and bytes are kept.
 pub record IsSound (k : Kept) : Type 0 where
   pub row : (id : ℕ) (o : Object) → map.get k.rows id ≡ Some o → IsRow id o
+  pub bound : (id : ℕ) (o : Object) (b : Binding) → map.get k.rows id ≡ Some o → bound_of o.detail ≡ Some b → RestsIn k (detail_of o.detail) b
   pub used : (id : ℕ) → is_some (map.get k.rows id) ≡ true → holds k.used id ≡ true
   pub few : map.len k.rows ≤ 65536
   pub small : total (λ id o. detail_bytes (detail_of o.detail)) k.rows ≤ 2 ^ 28

@@ -6,5 +6,6 @@ mod kinds;
 mod object;
 mod objects;
 
-pub use object::{Binding, Detail, MapRange, Object, Window};
+pub use gfx_types::MapRange;
+pub use object::{Binding, Detail, Object, Window};
 pub use objects::Objects;

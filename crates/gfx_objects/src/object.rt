@@ -2,24 +2,17 @@
 
 ghost use Rattle.std.specs.Prelude.{◌≡◌, ◌≤◌, IsTrue, option_map, if◌then◌else◌};
 ghost use Rattle.gfx_model.specs.Steps.{kind_of};
-ghost use Rattle.gfx_model.specs.Questions.{is_owned};
-ghost use Rattle.gfx_model.specs.Views.{detail_bytes};
-ghost use Rattle.gfx_objects.specs.Object.{detail_of, bound_of, mapped_of, layout_of, binding_of, range_of, is_within, is_resource, is_image, is_memory};
+ghost use Rattle.gfx_model.specs.Questions.{is_owned, range_of};
+ghost use Rattle.gfx_model.specs.Views.{detail_size, detail_bytes};
+ghost use Rattle.gfx_objects.specs.Object.{detail_of, bound_of, mapped_of, layout_of, binding_of, is_within, is_resource, is_image, is_memory};
 
-use gfx_types::{Format, Kind, Place};
+use gfx_types::{Format, Kind, MapRange, Place};
 
 /// Where a resource is bound: a memory, and an offset in bytes.
 #[derive(Clone, Copy, Debug, PartialEq, Eq)]
 pub struct Binding {
     pub memory: u64,
     pub offset: u64,
-}
-
-/// The mapped bytes of a memory.
-#[derive(Clone, Copy, Debug, PartialEq, Eq)]
-pub struct MapRange {
-    pub offset: u64,
-    pub length: u64,
 }
 
 /// The parameters of an object's creation, with what binds, maps and layout changes made of it since.
@@ -103,6 +96,24 @@ impl Detail {
             Detail::Fence => Kind::Fence,
             Detail::Semaphore => Kind::Semaphore,
             Detail::Swapchain { .. } => Kind::Swapchain,
+        }
+    }
+
+    /// The bytes of a memory, a buffer or an image, 0 for anything else.
+    pub fn size(&self) -> u64
+        requires { IsTrue (is_within (detail_of self.now)) }
+        ensures { result ≡ detail_size (detail_of self.now) }
+    {
+        match *self {
+            Detail::Memory { size, .. } => size,
+            Detail::Buffer { size, .. } => size,
+            Detail::Image {
+                format,
+                width,
+                height,
+                ..
+            } => image_size(format, width, height),
+            _ => 0,
         }
     }
 

@@ -6,20 +6,21 @@ ghost use Rattle.gfx_types.specs.declared.names.Kind.{Kind};
 ghost use Rattle.gfx_types.specs.declared.names.Kind.TheVariants as kind;
 ghost use Rattle.gfx_model.specs.Steps.Step.{creates, ends, binds, maps, unmaps, changes};
 ghost use Rattle.gfx_model.specs.Steps.Change.{set_layout};
+ghost use Rattle.gfx_model.specs.Questions as asked;
 ghost use Rattle.gfx_model.specs.Views as view;
 ghost use Rattle.gfx_model.specs.After.{after};
 ghost use Rattle.gfx_table.specs.Used.{holds};
 ghost use Rattle.gfx_table.specs.Values.{kept_rows};
 ghost use Rattle.gfx_objects.specs.Children.{count_of};
 ghost use Rattle.gfx_objects.specs.Kinds.{ids_of, room_of};
-ghost use Rattle.gfx_objects.specs.Object.{made, detail_of, window_of, binding_of, IsNew, is_within, is_owned_by, is_owned_row};
-ghost use Rattle.gfx_objects.specs.Objects.{answers, next_of, IsRow, IsSound, bytes_in};
+ghost use Rattle.gfx_objects.specs.Object.{made, detail_of, bound_of, window_of, binding_of, IsNew, is_within, is_owned_by, is_owned_row};
+ghost use Rattle.gfx_objects.specs.Objects.{answers, next_of, IsRow, RestsIn, IsSound, bytes_in};
 
 use crate::children::ChildCounts;
 use crate::kinds::{KindIds, number_of};
-use crate::object::{Binding, Detail, MapRange, Object, Window, image_size};
+use crate::object::{Binding, Detail, Object, Window, image_size};
 use gfx_table::{Table, UsedIds};
-use gfx_types::{Kind, Place, WantMemory};
+use gfx_types::{Kind, MapRange, Place, WantMemory};
 use std::alloc::{AllocError, Global};
 use std::marker::Model;
 
@@ -71,6 +72,7 @@ impl Objects {
         ensures row { option_copied result ≡ map.get self.now.rows id }
         ensures live { option_map made (option_copied result) ≡ (answers self.now).live id }
         ensures sound { IfSome result (λ o. IsRow id o.now) }
+        ensures all { IsSound self.now }
     {
         self.rows.get(id)
     }
@@ -90,6 +92,16 @@ impl Objects {
         ensures { result ≡ (answers self.now).used id }
     {
         self.used.contains(id)
+    }
+
+    /// The bytes of a live memory, buffer or image, 0 for any other id.
+    pub fn size(&self, id: u64) -> u64
+        ensures { result ≡ view.size_of (answers self.now) id }
+    {
+        match self.get(id) {
+            Some(object) => object.detail.size(),
+            None => 0,
+        }
     }
 
     /// How many live objects have this parent.
@@ -162,9 +174,11 @@ impl Objects {
         });
     }
 
-    /// Binds a live buffer or image to a memory, at an offset in bytes.
+    /// Binds a live buffer or image to a live memory, at an offset in bytes from which it ends inside the memory.
     pub fn bind(&mut self, id: u64, memory: u64, offset: u64)
-        requires { IsTrue (view.is_live (answers self.old) kind.Buffer id || view.is_live (answers self.old) kind.Image id) }
+        requires resource { IsTrue (view.is_live (answers self.old) kind.Buffer id || view.is_live (answers self.old) kind.Image id) }
+        requires memory { IsTrue (view.is_live (answers self.old) kind.Memory memory) }
+        requires inside { offset + view.size_of (answers self.old) id ≤ view.size_of (answers self.old) memory }
         ensures step { answers self.new ≡ after (answers self.old) (binds id memory offset) }
         ensures spare { self.new.spare ≡ self.old.spare }
     {
@@ -225,7 +239,8 @@ impl Objects {
 
     /// Where the bytes of a resource stand: none exactly where it isn't usable.
     pub fn window(&self, id: u64) -> Option<Window>
-        ensures { option_map window_of result ≡ view.window (answers self.now) id }
+        ensures window { option_map window_of result ≡ view.window (answers self.now) id }
+        ensures ends { IfSome result (λ w. w.offset + w.length ≤ 2 ^ 28) }
     {
         match self.get(id)?.detail {
             Detail::Buffer { size, bound, .. } => self.bound_window(bound, size),
@@ -271,6 +286,7 @@ impl Objects {
     fn add(&mut self, object: Object)
         requires unused { holds self.old.used object.id ≡ false }
         requires row { IsRow object.id object }
+        requires unbound { bound_of object.detail ≡ None }
         requires few { map.len self.old.rows < 65536 }
         requires small { bytes_in self.old.rows + view.detail_bytes (detail_of object.detail) ≤ 2 ^ 28 }
         requires spare { 1 ≤ self.old.spare }
@@ -291,6 +307,7 @@ impl Objects {
     fn set_detail(&mut self, id: u64, object: Object, detail: Detail)
         requires row { map.get self.old.rows id ≡ Some object }
         requires parameters { detail_of detail ≡ detail_of object.detail }
+        requires rests { (b : asked.Binding) → bound_of detail ≡ Some b → RestsIn self.old (detail_of detail) b }
         ensures rows { self.new.rows ≡ map.insert self.old.rows id (record object { detail = detail }) }
         ensures used { self.new.used ≡ self.old.used }
         ensures spare { self.new.spare ≡ self.old.spare }

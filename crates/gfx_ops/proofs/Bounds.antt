@@ -21,7 +21,6 @@ use Rattle.gfx_laws.specs.Lawful.{Passes, CommandPasses}
 use Rattle.gfx_laws.proofs.Lists.{all_behind, all_from_flat}
 use Rattle.gfx_ops.specs.declared.shape.Shape.{Shape}
 use Rattle.gfx_ops.specs.Operations.{shape_of}
-use Rattle.gfx_ops.specs.Laws.{WindowsEnd}
 use Rattle.gfx_ops.specs.Regions.{IsNearRegion, IsImageRegion, IsMixedRegion}
 
 -- ---- windows
@@ -50,8 +49,8 @@ window_length v x w e = by (v.live x) refl e
     by (Some o) live e = detail_length v x o.detail w e ∙ sym (ap (λ l. option_map_or (λ o. detail_size o.detail) l 0) live)
 
 -- a usable resource has at most as many bytes as may be live
-pub near_size : (v : View) → WindowsEnd v → (x : ℕ) (w : Window) → Some w ≡ window v x → size_of v x ≤ 2 ^ 28
-near_size v ends x w e = let ends_here = ends x w (sym e) in let long = window_length v x w (sym e) in omega arith
+pub near_size : (v : View) (x : ℕ) (w : Window) → Some w ≡ window v x → w.offset + w.length ≤ 2 ^ 28 → size_of v x ≤ 2 ^ 28
+near_size v x w e ends = let long = window_length v x w (sym e) in omega arith
 
 -- ---- regions
 

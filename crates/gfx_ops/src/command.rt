@@ -6,7 +6,6 @@ ghost use Rattle.gfx_laws.specs.Lawful.{CommandPasses};
 ghost use Rattle.gfx_laws.specs.Laws.{is_command};
 ghost use Rattle.gfx_objects.specs.Objects.{answers};
 ghost use Rattle.gfx_ops.specs.Operations.{ops_of_command};
-ghost use Rattle.gfx_ops.specs.Laws.{WindowsEnd};
 
 use crate::copies::{copy_buffer, copy_buffer_to_image, copy_image, copy_image_to_buffer};
 use crate::fills::{clear_image, fill_buffer, update_buffer};
@@ -15,8 +14,8 @@ use gfx_objects::Objects;
 use gfx_types::{Barriers, Call, OpList, WantMemory};
 use std::alloc::Global;
 
-/// Appends the operations of a recorded command to a list. The command breaks no check of its row, and each usable
-/// resource ends within the limit on live bytes. For want of memory the list begins with what it was.
+/// Appends the operations of a recorded command to a list. The command breaks no check of its row but perhaps that its
+/// buffer is recording and that there is room. For want of memory the list begins with what it was.
 #[tactic(auto, unfolding(crate::specs::Operations::ops_of_command))]
 pub fn append_ops(
     alloc: Global,
@@ -26,7 +25,6 @@ pub fn append_ops(
 ) -> Result<(), WantMemory>
     requires command { IsTrue (is_command (event_of_call call.now)) }
     requires passes { CommandPasses (answers objects.now) (event_of_call call.now) }
-    requires windows { WindowsEnd (answers objects.now) }
     ensures ok { OnOk result (ops.new ≡ ops.old ++ ops_of_command (answers objects.now) (event_of_call call.now)) }
     ensures err { OnErr result (take (length ops.old) ops.new ≡ ops.old) }
 {

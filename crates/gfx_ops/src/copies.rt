@@ -4,7 +4,6 @@ ghost use Rattle.gfx_model.specs.Events.Event.{CmdCopyBuffer, CmdCopyImage, CmdC
 ghost use Rattle.gfx_laws.specs.Lawful.{CommandPasses};
 ghost use Rattle.gfx_objects.specs.Objects.{answers};
 ghost use Rattle.gfx_ops.specs.Operations.{ops_of_command};
-ghost use Rattle.gfx_ops.specs.Laws.{WindowsEnd};
 
 use crate::region::{BufferCopies, Downloads, ImageCopies, Uploads, append_each};
 use crate::shape::shape_of;
@@ -21,7 +20,6 @@ pub(crate) fn copy_buffer(
     ops: &mut OpList,
 ) -> Result<(), WantMemory>
     requires passes { CommandPasses (answers objects.now) (CmdCopyBuffer _cb source target regions.now) }
-    requires windows { WindowsEnd (answers objects.now) }
     ensures ok { OnOk result (ops.new ≡ ops.old ++ ops_of_command (answers objects.now) (CmdCopyBuffer _cb source target regions.now)) }
     ensures err { OnErr result (take (length ops.old) ops.new ≡ ops.old) }
 {
@@ -50,7 +48,6 @@ pub(crate) fn copy_image(
     ops: &mut OpList,
 ) -> Result<(), WantMemory>
     requires passes { CommandPasses (answers objects.now) (CmdCopyImage _cb source _source_layout target _target_layout regions.now) }
-    requires windows { WindowsEnd (answers objects.now) }
     ensures ok { OnOk result (ops.new ≡ ops.old ++ ops_of_command (answers objects.now) (CmdCopyImage _cb source _source_layout target _target_layout regions.now)) }
     ensures err { OnErr result (take (length ops.old) ops.new ≡ ops.old) }
 {
@@ -82,7 +79,6 @@ pub(crate) fn copy_buffer_to_image(
     ops: &mut OpList,
 ) -> Result<(), WantMemory>
     requires passes { CommandPasses (answers objects.now) (CmdCopyBufferToImage _cb source target _layout regions.now) }
-    requires windows { WindowsEnd (answers objects.now) }
     ensures ok { OnOk result (ops.new ≡ ops.old ++ ops_of_command (answers objects.now) (CmdCopyBufferToImage _cb source target _layout regions.now)) }
     ensures err { OnErr result (take (length ops.old) ops.new ≡ ops.old) }
 {
@@ -112,7 +108,6 @@ pub(crate) fn copy_image_to_buffer(
     ops: &mut OpList,
 ) -> Result<(), WantMemory>
     requires passes { CommandPasses (answers objects.now) (CmdCopyImageToBuffer _cb source _layout target regions.now) }
-    requires windows { WindowsEnd (answers objects.now) }
     ensures ok { OnOk result (ops.new ≡ ops.old ++ ops_of_command (answers objects.now) (CmdCopyImageToBuffer _cb source _layout target regions.now)) }
     ensures err { OnErr result (take (length ops.old) ops.new ≡ ops.old) }
 {

@@ -7,7 +7,6 @@ ghost use Rattle.gfx_model.specs.Effects as effects;
 ghost use Rattle.gfx_laws.specs.Lawful.{CommandPasses};
 ghost use Rattle.gfx_objects.specs.Objects.{answers};
 ghost use Rattle.gfx_ops.specs.Operations.{ops_of_command};
-ghost use Rattle.gfx_ops.specs.Laws.{WindowsEnd};
 
 use gfx_objects::{Detail, Objects, Window};
 use gfx_types::{Op, OpList, Piece, WantMemory};
@@ -24,7 +23,6 @@ pub(crate) fn fill_buffer(
     ops: &mut OpList,
 ) -> Result<(), WantMemory>
     requires passes { CommandPasses (answers objects.now) (CmdFillBuffer _cb buffer offset size word) }
-    requires windows { WindowsEnd (answers objects.now) }
     ensures ok { OnOk result (ops.new ≡ ops.old ++ ops_of_command (answers objects.now) (CmdFillBuffer _cb buffer offset size word)) }
     ensures err { OnErr result (ops.new ≡ ops.old) }
 {
@@ -69,7 +67,6 @@ pub(crate) fn update_buffer(
     ops: &mut OpList,
 ) -> Result<(), WantMemory>
     requires passes { CommandPasses (answers objects.now) (CmdUpdateBuffer _cb buffer offset bytes.now) }
-    requires windows { WindowsEnd (answers objects.now) }
     ensures ok { OnOk result (ops.new ≡ ops.old ++ ops_of_command (answers objects.now) (CmdUpdateBuffer _cb buffer offset bytes.now)) }
     ensures err { OnErr result (ops.new ≡ ops.old) }
 {

@@ -327,8 +327,11 @@ fn with_image(alloc: Global, format: u32) -> Result<Objects, Fail> {
         index: None,
     };
     create(&mut objects, 4, detail)?;
-    if !objects.is_live(Kind::Image, 4) {
-        return Err("no image".into());
+    if !objects.is_live(Kind::Image, 4) || !objects.is_live(Kind::Memory, 3) {
+        return Err("no image or no memory".into());
+    }
+    if objects.size(4) > 112 || objects.size(3) < 128 {
+        return Err("out of range".into());
     }
     objects.bind(4, 3, 16);
     Ok(objects)

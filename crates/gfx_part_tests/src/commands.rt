@@ -165,8 +165,11 @@ fn with_bound(alloc: Global) -> Result<Objects, Fail> {
     create(&mut objects, 3, 2, Detail::Memory { size, mapped })?;
     let (size, usage, bound) = (16, 1, None);
     create(&mut objects, 9, 2, Detail::Buffer { size, usage, bound })?;
-    if !objects.is_live(Kind::Buffer, 9) {
-        return Err("no buffer".into());
+    if !objects.is_live(Kind::Buffer, 9) || !objects.is_live(Kind::Memory, 3) {
+        return Err("no buffer or no memory".into());
+    }
+    if objects.size(9) > objects.size(3) {
+        return Err("out of range".into());
     }
     objects.bind(9, 3, 0);
     Ok(objects)
@@ -245,12 +248,13 @@ fn submit_of(alloc: Global, cbs: &[u64]) -> Result<Submit, Fail> {
 // Whether a layout differs there, none where there is no such place.
 fn differs(
     recordings: &Recordings,
-    submits: &[Submit],
-    submit: usize,
-    at: usize,
+    submits: &Submits,
+    submit: u32,
+    at: u32,
     objects: &Objects,
 ) -> Option<bool> {
-    if submit >= submits.len() || at >= submits[submit].cbs.items().len() {
+    let items = submits.items();
+    if submit as usize >= items.len() || at as usize >= items[submit as usize].cbs.items().len() {
         return None;
     }
     Some(recordings.layout_differs(submits, submit, at, objects))
@@ -291,13 +295,7 @@ fn a_layout_is_the_one_that_earlier_buffers_leave(rt: HostRuntime) -> Result<(),
     let objects = with_pools(rt.alloc())?;
     let recordings = with_layouts(rt.alloc())?;
     let submits = two_submits(rt.alloc(), &[11, 10], &[11])?;
-    assert_eq!(rt;
-        differs(&recordings, submits.items(), 0, 0, &objects),
-        Some(true)
-    );
-    assert_eq!(rt;
-        differs(&recordings, submits.items(), 1, 0, &objects),
-        Some(false)
-    );
+    assert_eq!(rt; differs(&recordings, &submits, 0, 0, &objects), Some(true));
+    assert_eq!(rt; differs(&recordings, &submits, 1, 0, &objects), Some(false));
     Ok(())
 }

@@ -84,8 +84,11 @@ fn remove(objects: &mut Objects, id: u64) -> Result<(), Fail> {
 }
 
 fn bind(objects: &mut Objects, id: u64, memory: u64, offset: u64) -> Result<(), Fail> {
-    if !objects.is_live(Kind::Buffer, id) {
-        return Err("no buffer".into());
+    if !objects.is_live(Kind::Buffer, id) || !objects.is_live(Kind::Memory, memory) {
+        return Err("no buffer or no memory".into());
+    }
+    if offset > 1000 || offset + objects.size(id) > objects.size(memory) {
+        return Err("out of range".into());
     }
     objects.bind(id, memory, offset);
     Ok(())

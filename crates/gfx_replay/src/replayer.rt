@@ -125,9 +125,7 @@ fn take(
 {
     let shown = shown_frame(alloc, tracker, effect)?;
     let mut ops = OpList::of(Vec::new(alloc));
-    let Ok(_) = tracker.apply(effect, &mut ops) else {
-        return Err(WantMemory);
-    };
+    tracker.take(effect, &mut ops)?;
     places.run_all(&ops, given_bytes(effect))?;
     update(places, tracker.objects(), effect)?;
     Ok(shown)

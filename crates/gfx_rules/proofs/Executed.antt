@@ -11,7 +11,7 @@ use Rattle.gfx_model.specs.Views.{View}
 use Rattle.gfx_model.specs.Checks.{Turn, Layouts, turns_of, turns_of_submit, turns_fault, but, layouts_after, meets, is_executable, unless, first}
 use Rattle.gfx_model.specs.Checks.Turn.{wait, execute, signal}
 use Rattle.gfx_model.specs.Checks.Layouts.{stays, goes}
-use Rattle.gfx_commands.specs.Layouts.{asked_in, layouts_by}
+use Rattle.gfx_model.specs.Layouts.{asked_in, layouts_by}
 use Rattle.gfx_rules.specs.Turns.{signals_after, signals_behind, turns_at}
 use Rattle.gfx_rules.proofs.Joined.{first_assoc}
 use Rattle.gfx_rules.proofs.Signals.{signals_append, after_executes, flat_append}

@@ -6,3 +6,4 @@ pub mod Signals
 pub mod Executed
 pub mod Once
 pub mod Standing
+pub mod Few

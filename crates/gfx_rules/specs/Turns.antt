@@ -1,9 +1,16 @@
 -- What the turns of submits leave.
-use Rattle.std.specs.Prelude.{ℕ, Bool, true, false, List, [], ◌∷◌, flat_map, slice_get}
+use Rattle.std.specs.Prelude.{◌≤◌, ℕ, Bool, true, false, List, [], ◌∷◌, length, flat_map, slice_get}
 use Rattle.std.specs.Option.{option_map_or}
 use Rattle.gfx_types.specs.declared.lists.Submit.{Submit}
+use Rattle.gfx_model.specs.Limits.{max_submits, max_submit_buffers}
 use Rattle.gfx_model.specs.Checks.{Turn, turns_of_submit, but}
 use Rattle.gfx_model.specs.Checks.Turn.{wait, execute, signal}
+use Rattle.gfx_model.specs.Layouts.{cbs_at}
+
+-- as few submits, and command buffers in each, as a call may have
+pub record AreFew (submits : List Submit) : Type 0 where
+  pub all : length submits ≤ max_submits
+  pub each : (submit : ℕ) → length (cbs_at submits submit) ≤ max_submit_buffers
 
 -- what is signalled after these turns
 abbrev pub signals_after : (ℕ → Bool) → List Turn → ℕ → Bool

@@ -1,14 +1,12 @@
 //! The answers that checks read, given by any type.
 
 ghost use Rattle.std.specs.Prelude.{◌≡◌, ◌<◌, length, is_some, option_map, slice_get, slice_index};
-ghost use Rattle.gfx_types.specs.declared.lists.Submit.{Submit};
+ghost use Rattle.gfx_model.specs.Questions.{range_of};
 ghost use Rattle.gfx_model.specs.Views as views;
 ghost use Rattle.gfx_model.specs.Checks as words;
-ghost use Rattle.gfx_objects.specs.Object.{range_of};
-ghost use Rattle.gfx_commands.specs.Layouts.{asked_in, executed_before, cbs_at, layouts_by};
+ghost use Rattle.gfx_model.specs.Layouts.{asked_in, executed_before, cbs_at, layouts_by};
 
-use gfx_objects::MapRange;
-use gfx_types::{Kind, Submit};
+use gfx_types::{Kind, MapRange, Submits};
 
 /// What checks ask of a capture. Sizes, offsets and lengths are in bytes.
 pub trait Answers {
@@ -143,7 +141,7 @@ pub trait Answers {
 
     /// Whether the command buffer at a place of a submit meets its layouts, after all command buffers that stand
     /// before it in the call.
-    fn meets_layouts(&self, submits: &[Submit], submit: usize, at: usize) -> bool
+    fn meets_layouts(&self, submits: &Submits, submit: u32, at: u32) -> bool
         requires submit { submit < length submits.now }
         requires at { at < length (cbs_at submits.now submit) }
         ensures { let v = view self.now in let cb = slice_index (cbs_at submits.now submit) at in

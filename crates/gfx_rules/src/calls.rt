@@ -200,7 +200,7 @@ pub fn call_fault<A: Answers>(answers: &A, call: &Call<'_>) -> Option<Fault>
             queue,
             submits,
             fence,
-        } => queue_submit(answers, *queue, submits.items(), *fence),
+        } => queue_submit(answers, *queue, submits, *fence),
         Call::QueueWaitIdle { queue } => queue_wait_idle(answers, *queue),
         Call::DeviceWaitIdle { device } => device_wait_idle(answers, *device),
         Call::CreateSwapchainKHR {

@@ -6,11 +6,10 @@ ghost use Rattle.std.specs.Option.{option_map_or};
 ghost use Rattle.gfx_model.specs.Questions as asked;
 ghost use Rattle.gfx_model.specs.Views as views;
 ghost use Rattle.gfx_model.specs.Checks as words;
-ghost use Rattle.gfx_objects.specs.Object.{range_of};
+ghost use Rattle.gfx_model.specs.Questions.{range_of};
 
 use crate::answers::Answers;
-use gfx_objects::MapRange;
-use gfx_types::{Format, Kind};
+use gfx_types::{Format, Kind, MapRange};
 
 fn climb<A: Answers>(answers: &A, times: u32, id: u64) -> u64
     ensures { result ≡ views.climb times (A.view answers.now) id }

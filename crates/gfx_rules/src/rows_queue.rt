@@ -17,7 +17,7 @@ use crate::presents::{
 };
 use crate::submits::{lengths_each, near_fence, near_submits, order_fault};
 use crate::turns::waits_fault;
-use gfx_types::{Fault, Kind, Present, Submit};
+use gfx_types::{Fault, Kind, Present, Submit, Submits};
 
 /// The front of QueueSubmit: how many of each there are.
 fn submit_front<A: Answers>(answers: &A, queue: u64, submits: &[Submit]) -> Option<Fault>
@@ -42,15 +42,16 @@ fn submit_front<A: Answers>(answers: &A, queue: u64, submits: &[Submit]) -> Opti
 pub fn queue_submit<A: Answers>(
     answers: &A,
     queue: u64,
-    submits: &[Submit],
+    submits: &Submits,
     fence: u64,
 ) -> Option<Fault>
     ensures { result ≡ words.first_broken (A.view answers.now) (row_of (QueueSubmit queue submits.now fence)) }
 {
-    match submit_front(answers, queue, submits) {
+    let items = submits.items();
+    match submit_front(answers, queue, items) {
         Some(fault) => Some(fault),
         None => {
-            let objects = near_submits(answers, queue, submits);
+            let objects = near_submits(answers, queue, items);
             let named = first(objects, near_fence(answers, queue, fence));
             first(named, order_fault(answers, submits, fence))
         }

@@ -5,6 +5,7 @@ ghost use Rattle.gfx_types.specs.declared.names.Kind.TheVariants as kind;
 ghost use Rattle.gfx_types.specs.declared.names.Fault.TheVariants.{CommandState};
 ghost use Rattle.gfx_model.specs.Table as table;
 ghost use Rattle.gfx_model.specs.Checks as words;
+ghost use Rattle.gfx_rules.specs.Turns.{AreFew};
 
 use crate::answers::Answers;
 use crate::broken::first_broken;
@@ -12,7 +13,7 @@ use crate::checks::{Check, first, unless};
 use crate::distinct::are_submitted_once;
 use crate::lists::near_each;
 use crate::turns::turns_fault;
-use gfx_types::{Fault, Kind, Submit};
+use gfx_types::{Fault, Kind, Submit, Submits};
 
 /// 28 if a submit has too many waits, command buffers or signals.
 fn lengths_fault<A: Answers>(answers: &A, submit: &Submit) -> Option<Fault>
@@ -83,10 +84,11 @@ pub fn near_fence<A: Answers>(answers: &A, queue: u64, fence: u64) -> Option<Fau
 }
 
 /// 21 unless each command buffer stands once, and then the fault of the first turn that has one.
-pub fn order_fault<A: Answers>(answers: &A, submits: &[Submit], fence: u64) -> Option<Fault>
+pub fn order_fault<A: Answers>(answers: &A, submits: &Submits, fence: u64) -> Option<Fault>
+    requires { AreFew submits.now }
     ensures { result ≡ words.first_broken (A.view answers.now) (words.Check.must CommandState (words.is_distinct (flat_map (λ s. s.cbs) submits.now))
         ∷ words.Check.in_turn (words.turns_of submits.now fence) ∷ []) }
 {
-    let once = unless(are_submitted_once(submits), Fault::CommandState);
+    let once = unless(are_submitted_once(submits.items()), Fault::CommandState);
     first(once, turns_fault(answers, submits, fence))
 }

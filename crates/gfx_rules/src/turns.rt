@@ -3,13 +3,13 @@
 ghost use Rattle.std.specs.Prelude.{◌≡◌, ◌<◌, Bool, ℕ, length, map, take, flat_map};
 ghost use Rattle.gfx_types.specs.declared.names.Fault.TheVariants.{SignalState};
 ghost use Rattle.gfx_model.specs.Checks as words;
-ghost use Rattle.gfx_commands.specs.Layouts.{cbs_at, layouts_by};
-ghost use Rattle.gfx_rules.specs.Turns.{signals_after, signals_behind, turns_at};
+ghost use Rattle.gfx_model.specs.Layouts.{cbs_at, layouts_by};
+ghost use Rattle.gfx_rules.specs.Turns.{AreFew, signals_after, signals_behind, turns_at};
 
 use crate::answers::Answers;
 use crate::checks::first;
 use crate::ids::is_among;
-use gfx_types::{Fault, Submit};
+use gfx_types::{Fault, Submit, Submits};
 
 /// Whether an id is signalled after a submit, where it is or is not before.
 fn is_left_by(submit: &Submit, is: bool, id: u64) -> bool
@@ -84,10 +84,11 @@ fn signals_fault<A: Answers>(
 /// 21 unless each command buffer of a submit is executable, 23 unless it meets its layouts.
 fn executes_fault<A: Answers>(
     answers: &A,
-    submits: &[Submit],
-    submit: usize,
+    submits: &Submits,
+    submit: u32,
     cbs: &[u64],
 ) -> Option<Fault>
+    requires few { AreFew submits.now }
     requires submit { submit < length submits.now }
     requires cbs { cbs.now ≡ cbs_at submits.now submit }
     ensures { let v = A.view answers.now in let before = flat_map (λ s. s.cbs) (take submit submits.now) in
@@ -97,7 +98,7 @@ fn executes_fault<A: Answers>(
         if !answers.is_executable(*cb) {
             return Some(Fault::CommandState);
         }
-        if !answers.meets_layouts(submits, submit, at) {
+        if !answers.meets_layouts(submits, submit, at as u32) {
             return Some(Fault::LayoutDiffers);
         }
     }
@@ -105,13 +106,15 @@ fn executes_fault<A: Answers>(
 }
 
 /// The fault of a submit's first turn that has one, behind the submits before it.
-fn submit_fault<A: Answers>(answers: &A, submits: &[Submit], at: usize) -> Option<Fault>
-    requires { at < length submits.now }
+fn submit_fault<A: Answers>(answers: &A, submits: &Submits, at: u32) -> Option<Fault>
+    requires few { AreFew submits.now }
+    requires at { at < length submits.now }
     ensures { let v = A.view answers.now in let before = take at submits.now in
         result ≡ words.turns_fault v (signals_behind v.signalled before) (layouts_by v.buffer v.layout (flat_map (λ s. s.cbs) before)) (turns_at submits.now at) }
 {
-    let submit = &submits[at];
-    let before = &submits[..at];
+    let all = submits.items();
+    let submit = &all[at as usize];
+    let before = &all[..at as usize];
     let waited = waits_fault(answers, before, submit.waits.items());
     let executed = executes_fault(answers, submits, at, submit.cbs.items());
     let signalled = signals_fault(
@@ -124,11 +127,12 @@ fn submit_fault<A: Answers>(answers: &A, submits: &[Submit], at: usize) -> Optio
 }
 
 /// The fault of the first turn of the submits that has one.
-fn submits_fault<A: Answers>(answers: &A, submits: &[Submit]) -> Option<Fault>
+fn submits_fault<A: Answers>(answers: &A, submits: &Submits) -> Option<Fault>
+    requires { AreFew submits.now }
     ensures { let v = A.view answers.now in result ≡ words.turns_fault v v.signalled v.layout (flat_map words.turns_of_submit submits.now) }
 {
-    'submits: for at in 0..submits.len() {
-        if let Some(fault) = submit_fault(answers, submits, at) {
+    'submits: for at in 0..submits.items().len() {
+        if let Some(fault) = submit_fault(answers, submits, at as u32) {
             return Some(fault);
         }
     }
@@ -136,13 +140,14 @@ fn submits_fault<A: Answers>(answers: &A, submits: &[Submit]) -> Option<Fault>
 }
 
 /// The fault of the first turn of a call that has one.
-pub fn turns_fault<A: Answers>(answers: &A, submits: &[Submit], fence: u64) -> Option<Fault>
+pub fn turns_fault<A: Answers>(answers: &A, submits: &Submits, fence: u64) -> Option<Fault>
+    requires { AreFew submits.now }
     ensures { let v = A.view answers.now in result ≡ words.turns_fault v v.signalled v.layout (words.turns_of submits.now fence) }
 {
     let all = submits_fault(answers, submits);
     if fence == 0 {
         all
     } else {
-        first(all, signals_fault(answers, submits, &[], &[fence]))
+        first(all, signals_fault(answers, submits.items(), &[], &[fence]))
     }
 }

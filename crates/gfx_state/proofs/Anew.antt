@@ -10,7 +10,7 @@ use Rattle.gfx_types.specs.declared.op.Place.TheVariants as place
 use Rattle.gfx_model.specs.Events.{Event}
 use Rattle.gfx_model.specs.Events.Event.{AllocateMemory, FillMemory, MapMemory, InitImage, CreateSwapchainKHR, SetSwapchainState}
 use Rattle.gfx_model.specs.Steps.{Change}
-use Rattle.gfx_model.specs.Questions.{image_size}
+use Rattle.gfx_model.specs.Questions.{image_size, range_of}
 use Rattle.gfx_model.specs.Views.{View, images_in, detail_images, fetched}
 use Rattle.gfx_model.specs.Bytes.{byte, bytes_at}
 use Rattle.gfx_model.specs.Section as section
@@ -19,10 +19,10 @@ use Rattle.gfx_pages.specs.declared.bytes.Span.{Span}
 use Rattle.gfx_pages.specs.Fills as pages
 use Rattle.gfx_pages.proofs.Scans.{span_is}
 use Rattle.gfx_objects.specs.declared.object.Object.{Object}
-use Rattle.gfx_objects.specs.declared.object.MapRange.{MapRange}
+use Rattle.gfx_types.specs.declared.map_range.MapRange.{MapRange}
 use Rattle.gfx_objects.specs.declared.object.Detail.{Detail as Kept}
 use Rattle.gfx_objects.specs.declared.object.Detail.TheVariants as kept
-use Rattle.gfx_objects.specs.Object.{made, detail_of, mapped_of, range_of}
+use Rattle.gfx_objects.specs.Object.{made, detail_of, mapped_of}
 use Rattle.gfx_objects.specs.Objects as objects
 use Rattle.gfx_state.specs.Known.{bytes_in}
 use Rattle.gfx_state.specs.Filled.{fill_event, fills_written}

@@ -3,7 +3,7 @@ ghost use Rattle.std.specs.Prelude.{◌≡◌, ◌+◌, ◌≤◌, ◌∷◌, �
 ghost use Rattle.std.specs.Option.{option_map_or};
 ghost use Rattle.gfx_types.specs.declared.op.Place.TheVariants as place;
 ghost use Rattle.gfx_model.specs.Events.Event.{AllocateMemory, MapMemory};
-ghost use Rattle.gfx_objects.specs.Object.{range_of};
+ghost use Rattle.gfx_model.specs.Questions.{range_of};
 ghost use Rattle.gfx_state.specs.Known.{bytes_in};
 ghost use Rattle.gfx_state.specs.Filled.{fill_event, fills_written};
 ghost use Rattle.gfx_state.specs.Written.{Wrote};
@@ -14,9 +14,8 @@ use crate::piece::piece_of;
 use crate::writer::{write_effect, write_fill_memory};
 use gfx_device::StateBytes;
 use gfx_io::Sink;
-use gfx_objects::MapRange;
 use gfx_pages::Span;
-use gfx_types::{Call, Effect, Place};
+use gfx_types::{Call, Effect, MapRange, Place};
 use std::alloc::Global;
 
 // Writes the bytes of a fill.

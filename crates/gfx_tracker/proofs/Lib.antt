@@ -22,4 +22,4 @@ pub mod Reordered
 pub mod Submitting
 pub mod Operated
 pub mod Runnable
-pub mod Limits
+pub mod Binding

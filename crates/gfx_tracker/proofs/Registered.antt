@@ -402,6 +402,21 @@ pub marks_enough : (k : Kept) (s : FinMap nat_cmp Bool) (m : FinMap nat_cmp (Lis
     index < images_in (answers k) swapchain → index < length (marks_of m swapchain)
 marks_enough k s m inv swapchain index live below = let long = marks_are m swapchain _ (marks_long k s m inv swapchain live) in omega arith
 
+-- a swapchain has as many marks as images, and nothing else has marks
+pub marks_counted : (k : Kept) (s : FinMap nat_cmp Bool) (m : FinMap nat_cmp (List Bool)) → IsRegistered k s m → (x : ℕ) → length (marks_of m x) ≡ images_in (answers k) x
+marks_counted k s m inv x = by (map.get m x) ((answers k).live x) (inv.marks x)
+  where
+    of : (d : Detail) (o : Option (List Bool)) → option_map length o ≡ images_of d → length (unwrap_or o []) ≡ detail_images d
+    of (a_swapchain surface images format width height usage) None e = absurd cc
+    of (a_swapchain surface images format width height usage) (Some l) e = cc
+    of _ None e = refl
+    of _ (Some l) e = absurd cc
+
+    by : (o : Option (List Bool)) (l : Option Object) → option_map length o ≡ told None images_of l → length (unwrap_or o []) ≡ option_map_or (λ o. detail_images o.detail) l 0
+    by None None e = refl
+    by (Some l) None e = absurd cc
+    by o (Some q) e = of q.detail o e
+
 module _ (k : Kept) (s : FinMap nat_cmp Bool) (m : FinMap nat_cmp (List Bool)) (inv : IsRegistered k s m) (swapchain index : ℕ)
     (live : is_live (answers k) kind.Swapchain swapchain ≡ true) (below : index < images_in (answers k) swapchain) where
   abbrev pub marked : Bool → FinMap nat_cmp (List Bool)

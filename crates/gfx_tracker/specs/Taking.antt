@@ -1,11 +1,11 @@
 -- An effect that may be taken, and what stands after it.
-use Rattle.std.specs.Prelude.{◌≡◌, ◌<◌, ◌≤◌, ◌+◌, ◌^◌, ℕ, true, false, [], None, is_some, fold}
+use Rattle.std.specs.Prelude.{◌≡◌, ◌<◌, ◌≤◌, ◌+◌, ◌^◌, ◌||◌, ℕ, true, false, IsTrue, [], None, is_some, fold}
 use Rattle.gfx_model.specs.Events.{Event}
 use Rattle.gfx_model.specs.Steps.{Detail}
 use Rattle.gfx_types.specs.declared.names.Kind.TheVariants as kind
 use Rattle.gfx_types.specs.declared.lists.Present.{Present}
 use Rattle.gfx_model.specs.Questions.{passes}
-use Rattle.gfx_model.specs.Views.{View, object_count, live_bytes, detail_bytes, is_live, images_in}
+use Rattle.gfx_model.specs.Views.{View, object_count, live_bytes, detail_bytes, size_of, is_live, images_in}
 use Rattle.gfx_model.specs.Checks.{first_broken}
 use Rattle.gfx_model.specs.Table.{checks_of}
 use Rattle.gfx_model.specs.Effects.{steps_of}
@@ -30,6 +30,12 @@ pub record MayCreate (v : View) (id : ℕ) (d : Detail) : Type 0 where
   pub within : is_within d ≡ true
   pub room : object_count v < 65536
   pub bytes : live_bytes v + detail_bytes d ≤ 2 ^ 28
+
+-- a live buffer or image, and a live memory inside which it ends from this offset on
+pub record MayBind (v : View) (id memory offset : ℕ) : Type 0 where
+  pub resource : IsTrue (is_live v kind.Buffer id || is_live v kind.Image id)
+  pub there : IsTrue (is_live v kind.Memory memory)
+  pub inside : offset + size_of v id ≤ size_of v memory
 
 -- a live object, after some valid history
 pub record MayEnd (v : View) (id : ℕ) : Type 0 where

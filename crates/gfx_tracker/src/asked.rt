@@ -6,15 +6,14 @@ ghost use Rattle.gfx_model.specs.Checks.{first_broken};
 ghost use Rattle.gfx_tracker.specs.State.{state_answers};
 
 use crate::details::{
-    flags_in, format_in, height_in, is_bound_in, layout_in, mapped_in, size_in, usage_in,
-    wanted_in, width_in,
+    flags_in, format_in, height_in, is_bound_in, layout_in, mapped_in, usage_in, wanted_in,
+    width_in,
 };
 use crate::sought;
 use crate::state::State;
 use gfx_commands::CbState;
-use gfx_objects::MapRange;
 use gfx_rules::Answers;
-use gfx_types::{Effect, Fault, Kind, Submit};
+use gfx_types::{Effect, Fault, Kind, MapRange, Submits};
 
 impl Answers for State {
     ghost view = { state_answers };
@@ -59,10 +58,7 @@ impl Answers for State {
     }
 
     fn size_of(&self, id: u64) -> u64 {
-        match self.registry.objects.get(id) {
-            Some(object) => size_in(&object.detail),
-            None => 0,
-        }
+        self.registry.objects.size(id)
     }
 
     fn usage_of(&self, id: u64) -> u32 {
@@ -176,7 +172,7 @@ impl Answers for State {
         self.section
     }
 
-    fn meets_layouts(&self, submits: &[Submit], submit: usize, at: usize) -> bool {
+    fn meets_layouts(&self, submits: &Submits, submit: u32, at: u32) -> bool {
         !self
             .recordings
             .layout_differs(submits, submit, at, &self.registry.objects)

@@ -1,43 +1,12 @@
 //! What the parameters of an object say.
-ghost use Rattle.std.specs.Prelude.{◌≡◌, ◌≤◌, true, is_some, option_map};
-ghost use Rattle.gfx_model.specs.Questions as asked;
+ghost use Rattle.std.specs.Prelude.{◌≡◌, true, is_some, option_map};
 ghost use Rattle.gfx_model.specs.Views as view;
 ghost use Rattle.gfx_model.specs.Checks as words;
+ghost use Rattle.gfx_model.specs.Questions.{range_of};
 ghost use Rattle.gfx_objects.specs.Object as object;
 
-use gfx_objects::{Detail, MapRange};
-use gfx_types::Format;
-
-/// The bytes of an image of this format and extent.
-fn image_size(format: u32, width: u32, height: u32) -> u64
-    requires width { width ≤ 4096 }
-    requires height { height ≤ 4096 }
-    ensures { result ≡ asked.image_size format width height }
-{
-    let texel = match Format::of(format) {
-        Some(format) => format.texel(),
-        None => 0,
-    };
-    u64::from(width) * u64::from(height) * texel
-}
-
-/// The bytes of a memory, a buffer or an image.
-pub(crate) fn size_in(detail: &Detail) -> u64
-    requires { object.is_within (object.detail_of detail.now) ≡ true }
-    ensures { result ≡ view.detail_size (object.detail_of detail.now) }
-{
-    match *detail {
-        Detail::Memory { size, .. } => size,
-        Detail::Buffer { size, .. } => size,
-        Detail::Image {
-            format,
-            width,
-            height,
-            ..
-        } => image_size(format, width, height),
-        _ => 0,
-    }
-}
+use gfx_objects::Detail;
+use gfx_types::MapRange;
 
 /// The bytes that an InitImage has to have: those of an image of a swapchain.
 pub(crate) fn wanted_in(detail: &Detail) -> u64
@@ -45,7 +14,7 @@ pub(crate) fn wanted_in(detail: &Detail) -> u64
     ensures { result ≡ words.wanted_bytes (object.detail_of detail.now) (view.detail_size (object.detail_of detail.now)) }
 {
     match detail {
-        Detail::Image { index: Some(_), .. } => size_in(detail),
+        Detail::Image { index: Some(_), .. } => detail.size(),
         _ => 0,
     }
 }
@@ -126,7 +95,7 @@ pub(crate) fn flags_in(detail: &Detail) -> u32
 
 /// The mapped range of a memory.
 pub(crate) fn mapped_in(detail: &Detail) -> Option<MapRange>
-    ensures { option_map object.range_of result ≡ object.mapped_of detail.now }
+    ensures { option_map range_of result ≡ object.mapped_of detail.now }
 {
     match *detail {
         Detail::Memory { mapped, .. } => mapped,

@@ -96,9 +96,11 @@ impl Registry {
         self.objects.remove(id);
     }
 
-    /// Binds a live buffer or image to a memory, at an offset in bytes.
+    /// Binds a live buffer or image to a live memory, at an offset in bytes from which it ends inside the memory.
     pub(crate) fn bind(&mut self, id: u64, memory: u64, offset: u64)
-        requires { IsTrue (view.is_live (answers_of self.old) kind.Buffer id || view.is_live (answers_of self.old) kind.Image id) }
+        requires resource { IsTrue (view.is_live (answers_of self.old) kind.Buffer id || view.is_live (answers_of self.old) kind.Image id) }
+        requires memory { IsTrue (view.is_live (answers_of self.old) kind.Memory memory) }
+        requires inside { offset + view.size_of (answers_of self.old) id ≤ view.size_of (answers_of self.old) memory }
         ensures { answers_of self.new ≡ after (answers_of self.old) (binds id memory offset) }
     {
         self.objects.bind(id, memory, offset);

@@ -15,7 +15,7 @@ ghost use Rattle.gfx_commands.specs.Recordings.{buffers, commands_total, bytes_t
 ghost use Rattle.gfx_laws.specs.Lawful.{has_signal};
 ghost use Rattle.gfx_tracker.specs.Registered.{images_of};
 ghost use Rattle.gfx_tracker.specs.Gathered.{IsPlain, LawfulUsers};
-ghost use Rattle.gfx_tracker.specs.Taking.{MayCreate, MayEnd};
+ghost use Rattle.gfx_tracker.specs.Taking.{MayBind, MayCreate, MayEnd};
 
 use crate::registry::Registry;
 use gfx_commands::Recordings;
@@ -81,9 +81,9 @@ impl State {
         self.is_empty = false;
     }
 
-    /// Binds a live buffer or image to a memory, at an offset in bytes.
+    /// Binds a live buffer or image to a live memory, at an offset in bytes from which it ends inside the memory.
     pub(crate) fn bind(&mut self, id: u64, memory: u64, offset: u64)
-        requires { IsTrue (view.is_live (state_answers self.old) kind.Buffer id || view.is_live (state_answers self.old) kind.Image id) }
+        requires { MayBind (state_answers self.old) id memory offset }
         ensures { state_answers self.new ≡ after (state_answers self.old) (binds id memory offset) }
     {
         self.registry.bind(id, memory, offset);

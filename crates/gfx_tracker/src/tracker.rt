@@ -1,14 +1,14 @@
 //! The tracker: what stands after the effects of a capture, and which effect may follow.
-ghost use Rattle.std.specs.Prelude.{◌≡◌, ◌++◌, [], OnOk, OnErr, IfOk};
+ghost use Rattle.std.specs.Prelude.{◌≡◌, ℕ, ◌++◌, [], None, length, OnOk, OnErr, IfOk};
 ghost use Rattle.gfx_model.specs.Events.{event_of};
 ghost use Rattle.gfx_model.specs.Table.{checks_of};
 ghost use Rattle.gfx_model.specs.Checks.{first_broken};
-ghost use Rattle.gfx_model.specs.Views.{view_of, image_at};
+ghost use Rattle.gfx_model.specs.Views.{view_of, image_at, images_in};
 ghost use Rattle.gfx_laws.specs.Lawful.{IsLawful};
 ghost use Rattle.gfx_objects.specs.Objects as objects;
 ghost use Rattle.gfx_commands.specs.Recordings.{buffers};
 ghost use Rattle.gfx_swap.specs.Signals.{is_signalled};
-ghost use Rattle.gfx_swap.specs.Acquired.{is_acquired};
+ghost use Rattle.gfx_swap.specs.Acquired.{is_acquired, marks_of};
 ghost use Rattle.gfx_tracker.specs.State.{state_answers};
 ghost use Rattle.gfx_tracker.specs.Taking.{after_event};
 ghost use Rattle.gfx_tracker.specs.Operations.{ops_of};
@@ -21,7 +21,7 @@ use gfx_commands::Recordings;
 use gfx_objects::Objects;
 use gfx_rules::Answers;
 use gfx_swap::{Swaps, Sync};
-use gfx_types::{Effect, Fault, OpList};
+use gfx_types::{Effect, Fault, OpList, WantMemory};
 use std::alloc::Global;
 
 /// What stands after the effects of a capture. Its answers are as after some history without a fault.
@@ -51,6 +51,20 @@ impl Tracker {
         self.state.fault_of(effect)
     }
 
+    /// Takes an effect that breaks no check and appends its operations. For want of memory the tracker and the list are as
+    /// they were.
+    pub fn take(&mut self, effect: &Effect<'_>, ops: &mut OpList) -> Result<Outcome, WantMemory>
+        requires { first_broken (answers self.old) (checks_of (event_of effect.now)) ≡ None }
+        ensures ok { OnOk result (answers self.new ≡ after_event (answers self.old) (event_of effect.now)) }
+        ensures ops { OnOk result (ops.new ≡ ops.old ++ ops_of (answers self.old) (event_of effect.now)) }
+        ensures shown { IfOk result (λ o. o ≡ outcome_of (event_of effect.now)) }
+        ensures err { OnErr result (answers self.new ≡ answers self.old) }
+        ensures none { OnErr result (ops.new ≡ ops.old) }
+    {
+        take_effect(&mut self.state, effect, ops)?;
+        Ok(outcome_of(effect))
+    }
+
     /// Takes an effect and appends its operations. After a rule fault, which comes exactly where `fault_of` tells one,
     /// and for want of memory the tracker and the list are as they were.
     pub fn apply(&mut self, effect: &Effect<'_>, ops: &mut OpList) -> Result<Outcome, ApplyFault>
@@ -61,11 +75,10 @@ impl Tracker {
         ensures err { OnErr result (answers self.new ≡ answers self.old) }
         ensures none { OnErr result (ops.new ≡ ops.old) }
     {
-        if let Some(fault) = self.state.fault_of(effect) {
+        if let Some(fault) = self.fault_of(effect) {
             return Err(ApplyFault::Rule(fault));
         }
-        take_effect(&mut self.state, effect, ops)?;
-        Ok(outcome_of(effect))
+        Ok(self.take(effect, ops)?)
     }
 
     /// The live objects, and which ids were ever used.
@@ -96,9 +109,10 @@ impl Tracker {
         &self.state.registry.signals
     }
 
-    /// Which images of swapchains are acquired.
+    /// Which images of swapchains are acquired, and how many each swapchain has.
     pub fn swaps(&self) -> &Swaps
-        ensures { is_acquired result.now ≡ (answers self.now).acquired }
+        ensures acquired { is_acquired result.now ≡ (answers self.now).acquired }
+        ensures images { (swapchain : ℕ) → length (marks_of result.now swapchain) ≡ images_in (answers self.now) swapchain }
     {
         &self.state.registry.images
     }

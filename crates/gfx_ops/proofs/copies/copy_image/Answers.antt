@@ -9,10 +9,10 @@ use Rattle.gfx_ops.proofs.Said.{unchanged, no_source_image, no_target_image, ima
 use Rattle.gfx_ops.proofs.copies.copy_image.Goals as goal
 
 pub returns-in_default-clause-ok : goal.returns-in_default-clause-ok
-returns-in_default-clause-ok c = unchanged _ _ (no_source_image _ _ _ _ _ _ _ c.in_default.ensures)
+returns-in_default-clause-ok c = unchanged _ _ (no_source_image _ _ _ _ _ _ _ c.in_default.ensures.window)
 
 pub returns-in_default-window-clause-ok : goal.returns-in_default-window-clause-ok
-returns-in_default-window-clause-ok c = unchanged _ _ (no_target_image _ _ _ _ _ _ _ (window_of c.in-Some.from) c.in-Some.ensures c.in_default-window.ensures)
+returns-in_default-window-clause-ok c = unchanged _ _ (no_target_image _ _ _ _ _ _ _ (window_of c.in-Some.from) c.in-Some.ensures.window c.in_default-window.ensures.window)
 
 pub append_each-requires : goal.append_each-requires
 append_each-requires c =
@@ -33,5 +33,5 @@ returns-clause-ok c =
     subst (λ more. OnOk c.append_each.result (c.append_each.new.ops ≡ c.args.ops.now ++ more))
     (ap (map (image_op p.result q.result s t)) c.items.ensures
     ∙ image_ops (answers c.args.objects.now) c.args._cb c.args.source c.args._source_layout c.args.target c.args._target_layout c.args.regions.now s t p.result q.result
-    c.in-Some.ensures c.in-Some-window.ensures p.ensures.shape q.ensures.shape)
+    c.in-Some.ensures.window c.in-Some-window.ensures.window p.ensures.shape q.ensures.shape)
     c.append_each.ensures.ok

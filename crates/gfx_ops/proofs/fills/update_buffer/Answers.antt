@@ -8,15 +8,15 @@ use Rattle.gfx_ops.proofs.Said.{unchanged, nothing_updated, update_ops}
 use Rattle.gfx_ops.proofs.fills.update_buffer.Goals as goal
 
 pub returns-in_default-clause-ok : goal.returns-in_default-clause-ok
-returns-in_default-clause-ok c = unchanged _ _ (nothing_updated _ _ _ _ _ c.in_default.ensures)
+returns-in_default-clause-ok c = unchanged _ _ (nothing_updated _ _ _ _ _ c.in_default.ensures.window)
 
 pub update_op-requires : goal.update_op-requires
 update_op-requires c =
     let v = answers c.args.objects.now in
     let w = window_of c.in-Some.window in
-    let near : size_of v c.args.buffer ≤ 2 ^ 28 = near_size v c.requires.windows c.args.buffer w c.in-Some.ensures in
+    let near : size_of v c.args.buffer ≤ 2 ^ 28 = near_size v c.args.buffer w c.in-Some.ensures.window c.in-Some.ensures.ends in
     let begins : c.args.offset ≤ size_of v c.args.buffer = update_begins v c.args._cb c.args.buffer c.args.offset c.args.bytes.now c.requires.passes in
-    let ends : w.offset + w.length ≤ 2 ^ 28 = c.requires.windows c.args.buffer w (sym c.in-Some.ensures) in
+    let ends : w.offset + w.length ≤ 2 ^ 28 = c.in-Some.ensures.ends in
     omega arith
 
 pub returns-clause-ok : goal.returns-clause-ok
@@ -26,5 +26,5 @@ returns-clause-ok c =
     subst (λ more. OnOk c.push.result (c.push.new.self ≡ c.args.ops.now ++ more))
     (ap (λ o. o ∷ []) c.update_op.ensures
     ∙ ap (λ bytes. op.Put w.place (w.offset + c.args.offset) bytes ∷ []) (c.of.ensures ∙ c.in-Ok.ensures.items)
-    ∙ update_ops v c.args._cb c.args.buffer c.args.offset c.args.bytes.now w c.in-Some.ensures)
+    ∙ update_ops v c.args._cb c.args.buffer c.args.offset c.args.bytes.now w c.in-Some.ensures.window)
     c.push.ensures.ok

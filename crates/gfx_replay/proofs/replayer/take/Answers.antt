@@ -9,8 +9,8 @@ use Rattle.gfx_replay.proofs.replayer.take.Goals as goal
 
 pub run_all-requires : goal.run_all-requires
 run_all-requires c =
-    within_now (answers c.args.tracker.now) (bytes_in c.args.places.now) (event_of c.args.effect.now) c.apply.new.ops c.given_bytes.result.now
-    c.requires.standing c.requires.passes (c.in-Ok.ensures.ops ∙ ap (λ ops. ops ++ ops_of (answers c.args.tracker.now) (event_of c.args.effect.now)) (c.of-ops.ensures ∙ c.new.ensures.items)) c.given_bytes.ensures
+    within_now (answers c.args.tracker.now) (bytes_in c.args.places.now) (event_of c.args.effect.now) c.take.new.ops c.given_bytes.result.now
+    c.requires.standing c.requires.passes (c.in_ok-take.ensures.ops ∙ ap (λ ops. ops ++ ops_of (answers c.args.tracker.now) (event_of c.args.effect.now)) (c.of-ops.ensures ∙ c.new.ensures.items)) c.given_bytes.ensures
 
 pub update-requires : goal.update-requires
 update-requires c =
@@ -19,6 +19,6 @@ update-requires c =
 
 pub returns : goal.returns
 returns c =
-    taken_now (answers c.args.tracker.now) (answers c.apply.new.self) (objects.answers c.objects.result.now) (bytes_in c.args.places.now) (bytes_in c.run_all.new.self) (bytes_in c.update.new.places)
-    (event_of c.args.effect.now) c.apply.new.ops c.given_bytes.result.now c.in_ok-shown.shown c.requires.passes c.in-Ok.ensures.ok
-    (c.in-Ok.ensures.ops ∙ ap (λ ops. ops ++ ops_of (answers c.args.tracker.now) (event_of c.args.effect.now)) (c.of-ops.ensures ∙ c.new.ensures.items)) c.given_bytes.ensures c.run_all.ensures.sizes c.in_ok-run_all.ensures.ok c.objects.ensures c.in_ok-update.ensures c.in_ok-shown.ensures
+    taken_now (answers c.args.tracker.now) (answers c.take.new.self) (objects.answers c.objects.result.now) (bytes_in c.args.places.now) (bytes_in c.run_all.new.self) (bytes_in c.update.new.places)
+    (event_of c.args.effect.now) c.take.new.ops c.given_bytes.result.now c.in_ok-shown.shown c.requires.passes c.in_ok-take.ensures.ok
+    (c.in_ok-take.ensures.ops ∙ ap (λ ops. ops ++ ops_of (answers c.args.tracker.now) (event_of c.args.effect.now)) (c.of-ops.ensures ∙ c.new.ensures.items)) c.given_bytes.ensures c.run_all.ensures.sizes c.in_ok-run_all.ensures.ok c.objects.ensures c.in_ok-update.ensures c.in_ok-shown.ensures

@@ -1,6 +1,6 @@
 use Rattle.std.proofs.Common.{flat_map, take, arith, sym, ap, ◌∙◌, ◌++◌, get_or}
 use Rattle.gfx_model.specs.Checks as words
-use Rattle.gfx_commands.specs.Layouts.{asked_in, layouts_by}
+use Rattle.gfx_model.specs.Layouts.{asked_in, layouts_by}
 use Rattle.gfx_rules.proofs.Executed.{not_ready, not_met, is_met, executes_end, here}
 use Rattle.gfx_rules.proofs.turns.executes_fault.Goals as goal
 

@@ -1,6 +1,6 @@
 use Rattle.std.proofs.Common.{◌≡◌, ℕ, Bool, map, flat_map, take, drop}
 use Rattle.gfx_model.specs.Checks as words
-use Rattle.gfx_commands.specs.Layouts.{layouts_by}
+use Rattle.gfx_model.specs.Layouts.{layouts_by}
 use Rattle.gfx_rules.proofs.Executed.{here}
 use Rattle.gfx_rules.proofs.turns.executes_fault.Given as goal
 

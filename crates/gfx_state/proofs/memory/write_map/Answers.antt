@@ -2,7 +2,7 @@ use Rattle.std.proofs.Common.{ap, ◌∷◌, []}
 use Rattle.std.specs.Prelude.{option_map}
 use Rattle.std.specs.Option.{option_map_or}
 use Rattle.gfx_model.specs.Events.Event.{MapMemory}
-use Rattle.gfx_objects.specs.Object.{range_of}
+use Rattle.gfx_model.specs.Questions.{range_of}
 use Rattle.gfx_state.proofs.Writing.{wrote_none}
 use Rattle.gfx_state.proofs.memory.write_map.Goals as goal
 

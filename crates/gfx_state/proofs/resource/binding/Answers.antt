@@ -8,4 +8,4 @@ pub returns : goal.returns
 returns c =
     let v = answers c.args.objects.now in
     c.bound_in.ensures ∙ sym (bound_answered c.args.objects.now c.args.id _ (sym c.in_ok-object.ensures.row))
-    ∙ ap (λ t. if t then v.bound c.args.id else None) (ap is_some c.in_ok-_window.ensures)
+    ∙ ap (λ t. if t then v.bound c.args.id else None) (ap is_some c.in_ok-_window.ensures.window)

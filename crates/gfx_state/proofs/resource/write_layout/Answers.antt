@@ -11,8 +11,8 @@ returns-then-layout-eq0 g c = wrote_none (layout_unset (answers c.args.objects.n
 pub returns-in-Some : goal.returns-in-Some
 returns-in-Some g c =
     let v = answers c.args.objects.now in
-    let is = layout_there v c.args.image (sym (ap is_some c.in-Some.ensures)) (λ e. c.if-layout-eq0.false (c.layout_of-layout.ensures ∙ e)) in
+    let is = layout_there v c.args.image (sym (ap is_some c.in-Some.ensures.window)) (λ e. c.if-layout-eq0.false (c.layout_of-layout.ensures ∙ e)) in
     wrote_as (ap (λ l. InitImage c.args.image l [] ∷ []) c.layout_of-layout.ensures ∙ sym is) c.write_init_image.ensures
 
 pub returns-in-None : goal.returns-in-None
-returns-in-None g c = wrote_none (layout_unusable (answers c.args.objects.now) c.args.image (sym (ap is_some c.in-None.ensures)))
+returns-in-None g c = wrote_none (layout_unusable (answers c.args.objects.now) c.args.image (sym (ap is_some c.in-None.ensures.window)))

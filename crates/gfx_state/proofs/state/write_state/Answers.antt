@@ -31,7 +31,7 @@ returns-clause-ok g c = λ h stands stored.
       layout = c.objects.ensures.layout;
       buffer = c.recordings.ensures;
       signalled = c.sync.ensures;
-      acquired = c.swaps.ensures;
+      acquired = c.swaps.ensures.acquired;
     } in
     subst (λ es. OnOk c.write_section.result (Appends (g.K.Sink.taken c.args.sink.now) (g.K.Sink.taken c.write_section.new.sink) (flat_map (encoding 1 0) es)))
     (section_same w v (executed h) c.args.frame read ∙ section_stands v h c.args.frame stands)
@@ -49,7 +49,7 @@ returns-clause-err g c = λ h stands stored.
       layout = c.objects.ensures.layout;
       buffer = c.recordings.ensures;
       signalled = c.sync.ensures;
-      acquired = c.swaps.ensures;
+      acquired = c.swaps.ensures.acquired;
     } in
     subst (λ es. OnErr c.write_section.result (AppendsPart (g.K.Sink.taken c.args.sink.now) (g.K.Sink.taken c.write_section.new.sink) (flat_map (encoding 1 0) es)))
     (section_same w v (executed h) c.args.frame read ∙ section_stands v h c.args.frame stands)

@@ -1,22 +1,21 @@
-use Rattle.std.proofs.Common.{◌||◌, refl, ap, ◌∙◌}
-use Rattle.gfx_types.specs.declared.names.Kind.TheVariants as kind
+use Rattle.std.proofs.Common.{refl, ◌∙◌}
 use Rattle.gfx_model.specs.Events.Event.{BindBufferMemory}
 use Rattle.gfx_model.specs.Spelling.{id_of}
 use Rattle.gfx_model.specs.Steps.Step.{binds}
-use Rattle.gfx_model.specs.Views.{is_live}
 use Rattle.gfx_model.specs.Table.{place_of, row_of, checks_of}
 use Rattle.gfx_model.specs.Effects.{effect_of}
 use Rattle.gfx_laws.proofs.NewObjects.{all_pass}
 use Rattle.gfx_tracker.specs.State.{state_answers}
-use Rattle.gfx_tracker.proofs.Next.{is_live_by, after_one}
+use Rattle.gfx_tracker.proofs.Next.{after_one}
+use Rattle.gfx_tracker.proofs.Binding.{buffer_binds}
 use Rattle.gfx_tracker.proofs.resources.bind_buffer_memory.Goals as goal
 
 pub bind-requires : goal.bind-requires
 unfolding place_of row_of id_of
 bind-requires c =
     let v = state_answers c.args.state.now in
-    ap (λ t. t || is_live v kind.Image c.args.buffer)
-    (is_live_by v kind.Buffer c.args.buffer (all_pass v (checks_of (BindBufferMemory c.args._device c.args.buffer c.args.memory c.args.offset)) c.requires.passes).1.0)
+    let all = all_pass v (checks_of (BindBufferMemory c.args._device c.args.buffer c.args.memory c.args.offset)) c.requires.passes in
+    buffer_binds v c.args.buffer c.args.memory c.args.offset all.1.0 all.1.1.0 all.1.1.1.1.1.1.1.0
 
 pub returns : goal.returns
 unfolding effect_of

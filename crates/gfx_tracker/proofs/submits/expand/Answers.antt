@@ -2,17 +2,13 @@ use Rattle.std.proofs.Common.{refl, sym}
 use Rattle.gfx_objects.specs.Objects.{answers}
 use Rattle.gfx_tracker.specs.State.{state_answers}
 use Rattle.gfx_tracker.proofs.Runnable.{all_runnable}
-use Rattle.gfx_tracker.proofs.Limits.{windows_end}
 use Rattle.gfx_tracker.proofs.Operated.{ops_same}
 use Rattle.gfx_tracker.proofs.submits.expand.Goals as goal
 
-pub expand-requires-clause-each : goal.expand-requires-clause-each
-expand-requires-clause-each c =
+pub expand-requires : goal.expand-requires
+expand-requires c =
     let s = c.args.state.now in
     all_runnable (state_answers s) (answers s.registry.objects) refl c.requires.lawful c.args.cb c.requires.executable
-
-pub expand-requires-clause-windows : goal.expand-requires-clause-windows
-expand-requires-clause-windows c = windows_end (state_answers c.args.state.now) c.requires.lawful
 
 pub returns-clause-ok : goal.returns-clause-ok
 returns-clause-ok c =

@@ -16,7 +16,7 @@ append_ops-requires-clause-runs c =
     let v = answers c.args.objects.now in
     subst (λ r. IsRunnable v (event_in r)) (sym c.recorded-item.is)
     (all_mapped_at (IsRunnable v) event_in c.deref-recorded-items.result.now c.items.recorded-index c.recorded-item.result c.items-test.true
-    (subst (λ rs. AllByRecursion (IsRunnable v) (events_in rs)) (sym (c.deref-recorded-items.ensures.value ∙ c.self.view_is)) c.requires.each))
+    (subst (λ rs. AllByRecursion (IsRunnable v) (events_in rs)) (sym (c.deref-recorded-items.ensures.value ∙ c.self.view_is)) c.requires))
 
 pub returns-in_err-append_ops-clause-err : goal.returns-in_err-append_ops-clause-err
 returns-in_err-append_ops-clause-err c =

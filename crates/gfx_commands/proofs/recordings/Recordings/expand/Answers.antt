@@ -15,10 +15,10 @@ returns-in_default-clause-ok c =
     sym (append-nil c.args.ops.now)
     ∙ ap (λ (b : Buffer). c.args.ops.now ++ flat_map (ops_of_command (answers c.args.objects.now)) b.commands) (sym at)
 
-pub append_ops-requires-clause-each : goal.append_ops-requires-clause-each
-append_ops-requires-clause-each c =
+pub append_ops-requires : goal.append_ops-requires
+append_ops-requires c =
     let at = found c.args.self.now c.args.cb (Some c.in-Some.row.now) (ap (λ m. map.get m c.args.cb) (sym c.self.view_is) ∙ sym c.in-Some.ensures) in
-    subst (λ (b : Buffer). AllByRecursion (IsRunnable (answers c.args.objects.now)) b.commands) at c.requires.each
+    subst (λ (b : Buffer). AllByRecursion (IsRunnable (answers c.args.objects.now)) b.commands) at c.requires
 
 pub returns-in-Ok-clause-ok : goal.returns-in-Ok-clause-ok
 returns-in-Ok-clause-ok c =

@@ -3,7 +3,7 @@ use Rattle.gfx_table.specs.Rows.{least_above-higher}
 use Rattle.gfx_objects.specs.Objects.{answers}
 use Rattle.gfx_commands.specs.Uses.{use_of, suits}
 use Rattle.gfx_commands.specs.Recordings.{buffers}
-use Rattle.gfx_commands.specs.Layouts.{executed_before, layouts_by}
+use Rattle.gfx_model.specs.Layouts.{executed_before, layouts_by}
 use Rattle.gfx_commands.proofs.Named.{none_up_to, none_at_all}
 use Rattle.gfx_commands.proofs.Laid.{all_suit}
 use Rattle.gfx_commands.proofs.recordings.Recordings.image_differs.Goals as goal

@@ -3,7 +3,7 @@ use Rattle.std.specs.FinMap as map
 use Rattle.gfx_objects.specs.Objects.{answers}
 use Rattle.gfx_commands.specs.Uses.{use_of, suits}
 use Rattle.gfx_commands.specs.Recordings.{buffers}
-use Rattle.gfx_commands.specs.Layouts.{executed_before, layouts_by}
+use Rattle.gfx_model.specs.Layouts.{executed_before, layouts_by}
 use Rattle.gfx_commands.proofs.recordings.Recordings.image_differs.Given as goal
 
 -- no image so far differs

@@ -3,7 +3,7 @@ use Rattle.std.specs.Prelude.{flat_map}
 use Rattle.gfx_types.specs.declared.lists.Submit.{Submit}
 use Rattle.gfx_objects.specs.Objects.{answers}
 use Rattle.gfx_commands.specs.Recordings.{buffers}
-use Rattle.gfx_commands.specs.Layouts.{layouts_by}
+use Rattle.gfx_model.specs.Layouts.{layouts_by}
 use Rattle.gfx_commands.proofs.Laid.{get_at, part_of, last_part, last_submit}
 use Rattle.gfx_commands.proofs.recordings.Recordings.layout_before.Goals as goal
 

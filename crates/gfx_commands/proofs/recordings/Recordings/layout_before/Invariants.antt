@@ -2,7 +2,7 @@ use Rattle.std.proofs.Common.{◌≡◌, ℕ, ◌≤◌, take}
 use Rattle.std.specs.Prelude.{flat_map}
 use Rattle.gfx_types.specs.declared.lists.Submit.{Submit}
 use Rattle.gfx_commands.specs.Recordings.{buffers}
-use Rattle.gfx_commands.specs.Layouts.{executed_before, layouts_by}
+use Rattle.gfx_model.specs.Layouts.{executed_before, layouts_by}
 use Rattle.gfx_commands.proofs.recordings.Recordings.layout_before.Given as goal
 
 -- what is executed from the submit `end` on, up to the place, leaves the image as it was

@@ -1,6 +1,6 @@
 use Rattle.std.proofs.Common.{◌≡◌, ◌+◌, ◌-◌, Some, None, get_or, take, refl, ap, ◌∙◌, arith}
 use Rattle.gfx_commands.specs.Recordings.{buffers}
-use Rattle.gfx_commands.specs.Layouts.{layouts_by}
+use Rattle.gfx_model.specs.Layouts.{layouts_by}
 use Rattle.gfx_commands.proofs.Laid.{get_at, last_buffer}
 use Rattle.gfx_commands.proofs.recordings.Recordings.left_by.Goals as goal
 

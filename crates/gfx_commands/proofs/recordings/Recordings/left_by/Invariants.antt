@@ -1,6 +1,6 @@
 use Rattle.std.proofs.Common.{◌≡◌, ℕ, ◌≤◌, length, take}
 use Rattle.gfx_commands.specs.Recordings.{buffers}
-use Rattle.gfx_commands.specs.Layouts.{layouts_by}
+use Rattle.gfx_model.specs.Layouts.{layouts_by}
 use Rattle.gfx_commands.proofs.recordings.Recordings.left_by.Given as goal
 
 -- the buffers from `end` on leave the image as it was

@@ -31,7 +31,7 @@ invariant_of-self c =
     let small : bytes_in s.rows.map + detail_bytes (detail_of o.detail) ≤ 2 ^ 28 = let a = ap (λ k. bytes_in k.rows) c.self.view_is in let b = c.requires.small in omega (arith, a, b) in
     record {
       sound = sound_created (kept_of s) (record { rows = c.set.new.self.map; used = c.insert-2.new.self; spare = s.room - 1 }) o.id o
-          c.set.ensures.map none c.insert-2.ensures.ids c.requires.row few small c.self.invariant.sound;
+          c.set.ensures.map unused c.insert-2.ensures.ids c.requires.row c.requires.unbound few small c.self.invariant.sound;
       indexed = indexed_created s.rows.map c.set.new.self.map (ids_of s.kinds.tables) (ids_of c.insert.new.self.tables)
           (count_of s.children.counts.map) (count_of c.add.new.self.counts.map) s.bytes (s.bytes + c.bytes.result) o.id o
           c.set.ensures.map none c.insert.ensures.ids c.add.ensures.counts (ap (λ n. s.bytes + n) c.bytes.ensures) c.self.invariant.indexed;

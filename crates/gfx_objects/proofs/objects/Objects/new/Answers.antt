@@ -18,6 +18,7 @@ invariant_of-result c =
     record {
       sound = record {
         row = λ id o some. let n = none id in absurd (grind (arith, n, some));
+        bound = λ id o b some is. let n = none id in absurd (grind (arith, n, some));
         used = λ id some. let n = none id in absurd (grind (arith, n, some));
         few = let n = ap map.len c.new.ensures ∙ len-empty nat_cmp Object in omega (arith, n);
         small = let n = nothing (λ id o. detail_bytes (detail_of o.detail)) in omega (arith, n);

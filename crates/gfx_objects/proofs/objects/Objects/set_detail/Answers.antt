@@ -1,8 +1,9 @@
-use Rattle.std.proofs.Common.{refl, ap, sym, ◌∙◌, arith}
+use Rattle.std.proofs.Common.{refl, ap, sym, subst, ◌∙◌, arith}
 use Rattle.std.specs.FinMap as map
 use Rattle.gfx_model.specs.Steps.{kind_of}
 use Rattle.gfx_model.specs.Views.{detail_bytes}
-use Rattle.gfx_objects.specs.Object.{is_within}
+use Rattle.gfx_objects.specs.Object.{detail_of, is_within}
+use Rattle.gfx_objects.specs.Objects.{RestsIn}
 use Rattle.gfx_objects.specs.Inside.{kept_of}
 use Rattle.gfx_objects.specs.Kinds.{ids_of}
 use Rattle.gfx_objects.specs.Children.{count_of}
@@ -24,7 +25,7 @@ invariant_of-self c =
             not_zero = old.not_zero;
             same_kind = old.same_kind ∙ ap kind_of (sym c.requires.parameters);
             within = ap is_within c.requires.parameters ∙ old.within;
-          }) bytes c.self.invariant.sound;
+          }) c.requires.parameters (λ b is. subst (λ k. RestsIn k (detail_of c.args.detail) b) (sym c.self.view_is) (c.requires.rests b is)) c.self.invariant.sound;
       indexed = indexed_changed s.rows.map c.set.new.self.map (ids_of s.kinds.tables) (count_of s.children.counts.map) s.bytes c.args.id
           c.args.object (record c.args.object { detail = c.args.detail }) c.set.ensures.map some refl refl bytes c.self.invariant.indexed;
       has_room = record {
