@@ -7,6 +7,7 @@ mod commands;
 mod creations;
 mod details;
 mod each;
+mod end;
 mod ends;
 mod fences;
 mod markers;

@@ -29,7 +29,8 @@ use crate::state::State;
 use crate::submits::queue_submit;
 use crate::swapchains::{acquire_next_image, get_swapchain_images};
 use crate::waits::{device_wait_idle, get_fence_status, queue_wait_idle, wait_for_fences};
-use gfx_types::{Call, Effect, Meta, OpList, WantMemory};
+use crate::end::RowEnd;
+use gfx_types::{Call, Effect, Meta, OpList, WantMemory, argument, calls, metas};
 
 /// Takes an effect and appends its operations. For want of memory all is as it was.
 pub(crate) fn take_effect(
@@ -53,6 +54,32 @@ pub(crate) fn take_effect(
     }
 }
 
+/// A value is taken by its row. Each command is recorded as it is; a submit and the metadata with bytes append
+/// operations.
+macro_rules! taken {
+    (@commands $row:ident($state:expr, $value:expr, $ops:expr; $($mark:ident $field:ident),+)) => {
+        record_command($state, $value)
+    };
+    (@$section:ident queue_submit($state:expr, $value:expr, $ops:expr; $($mark:ident $field:ident),+)) => {
+        queue_submit($state, $(argument!($mark $field)),+, $ops)
+    };
+    (@metas fill_memory($state:expr, $value:expr, $ops:expr; $($mark:ident $field:ident),+)) => {
+        fill_memory($state, $(argument!($mark $field)),+, $ops)
+    };
+    (@metas init_image($state:expr, $value:expr, $ops:expr; $($mark:ident $field:ident),+)) => {
+        init_image($state, $(argument!($mark $field)),+, $ops)
+    };
+    (@$section:ident $row:ident($state:expr, $value:expr, $ops:expr; $($mark:ident $field:ident),+)) => {
+        $row($state, $(argument!($mark $field)),+).end()
+    };
+    ($state:expr, $value:expr, $ops:expr, $of:ident, { $($other:tt)* }; $($section:ident { $($id:literal $name:ident $row:ident($($field:ident: $mark:ident),+);)+ })+) => {
+        match $value {
+            $($($of::$name { $($field),+ } => taken!(@$section $row($state, $value, $ops; $($mark $field),+)),)+)+
+            $($other)*
+        }
+    };
+}
+
 /// Takes a call, and appends the operations of a submit. For want of memory all is as it was.
 #[tactic(auto, using(crate::proofs::Appended::nothing_more), unfolding(crate::specs::Operations::ops_of))]
 fn take_call(state: &mut State, call: &Call<'_>, ops: &mut OpList) -> Result<(), WantMemory>
@@ -62,225 +89,16 @@ fn take_call(state: &mut State, call: &Call<'_>, ops: &mut OpList) -> Result<(),
     ensures err { OnErr result (state_answers state.new ≡ state_answers state.old) }
     ensures none { OnErr result (ops.new ≡ ops.old) }
 {
-    match call {
-        Call::CreateInstance { instance, api } => create_instance(state, *instance, *api),
-        Call::DestroyInstance { instance } => {
-            destroy_instance(state, *instance);
-            Ok(())
-        }
-        Call::CreateHeadlessSurfaceEXT { instance, surface } => create_surface(
-            state, *instance, *surface,
-        ),
-        Call::DestroySurfaceKHR { instance, surface } => {
-            destroy_surface(state, *instance, *surface);
-            Ok(())
-        }
-        Call::CreateDevice { instance, device } => create_device(state, *instance, *device),
-        Call::DestroyDevice { device } => {
-            destroy_device(state, *device);
-            Ok(())
-        }
-        Call::GetDeviceQueue { device, queue } => get_device_queue(state, *device, *queue),
-        Call::AllocateMemory {
-            device,
-            memory,
-            size,
-        } => allocate_memory(state, *device, *memory, *size),
-        Call::FreeMemory { device, memory } => {
-            free_memory(state, *device, *memory);
-            Ok(())
-        }
-        Call::MapMemory {
-            device,
-            memory,
-            offset,
-            size,
-        } => {
-            map_memory(state, *device, *memory, *offset, *size);
-            Ok(())
-        }
-        Call::UnmapMemory { device, memory } => {
-            unmap_memory(state, *device, *memory);
-            Ok(())
-        }
-        Call::CreateBuffer {
-            device,
-            buffer,
-            size,
-            usage,
-        } => create_buffer(state, *device, *buffer, *size, *usage),
-        Call::DestroyBuffer { device, buffer } => {
-            destroy_buffer(state, *device, *buffer);
-            Ok(())
-        }
-        Call::BindBufferMemory {
-            device,
-            buffer,
-            memory,
-            offset,
-        } => {
-            bind_buffer_memory(state, *device, *buffer, *memory, *offset);
-            Ok(())
-        }
-        Call::CreateImage {
-            device,
-            image,
-            format,
-            width,
-            height,
-            usage,
-        } => create_image(state, *device, *image, *format, *width, *height, *usage),
-        Call::DestroyImage { device, image } => {
-            destroy_image(state, *device, *image);
-            Ok(())
-        }
-        Call::BindImageMemory {
-            device,
-            image,
-            memory,
-            offset,
-        } => {
-            bind_image_memory(state, *device, *image, *memory, *offset);
-            Ok(())
-        }
-        Call::CreateCommandPool {
-            device,
-            pool,
-            flags,
-        } => create_command_pool(state, *device, *pool, *flags),
-        Call::DestroyCommandPool { device, pool } => {
-            destroy_command_pool(state, *device, *pool);
-            Ok(())
-        }
-        Call::ResetCommandPool { device, pool } => {
-            reset_command_pool(state, *device, *pool);
-            Ok(())
-        }
-        Call::AllocateCommandBuffers {
-            device,
-            pool,
-            buffers,
-        } => allocate_command_buffers(state, *device, *pool, buffers.items()),
-        Call::FreeCommandBuffers {
-            device,
-            pool,
-            buffers,
-        } => {
-            free_command_buffers(state, *device, *pool, buffers.items());
-            Ok(())
-        }
-        Call::BeginCommandBuffer { cb, flags } => begin_command_buffer(state, *cb, *flags),
-        Call::EndCommandBuffer { cb } => {
-            end_command_buffer(state, *cb);
-            Ok(())
-        }
-        Call::ResetCommandBuffer { cb } => {
-            reset_command_buffer(state, *cb);
-            Ok(())
-        }
-        Call::CmdPipelineBarrier { .. } => record_command(state, call),
-        Call::CmdFillBuffer { .. } => record_command(state, call),
-        Call::CmdUpdateBuffer { .. } => record_command(state, call),
-        Call::CmdCopyBuffer { .. } => record_command(state, call),
-        Call::CmdCopyImage { .. } => record_command(state, call),
-        Call::CmdCopyBufferToImage { .. } => record_command(state, call),
-        Call::CmdCopyImageToBuffer { .. } => record_command(state, call),
-        Call::CmdClearColorImage { .. } => record_command(state, call),
-        Call::CreateFence {
-            device,
-            fence,
-            flags,
-        } => create_fence(state, *device, *fence, *flags),
-        Call::DestroyFence { device, fence } => {
-            destroy_fence(state, *device, *fence);
-            Ok(())
-        }
-        Call::ResetFences { device, fences } => {
-            reset_fences(state, *device, fences.items());
-            Ok(())
-        }
-        Call::WaitForFences {
-            device,
-            fences,
-            wait_all,
-            answer,
-        } => {
-            wait_for_fences(state, *device, fences.items(), *wait_all, *answer);
-            Ok(())
-        }
-        Call::GetFenceStatus {
-            device,
-            fence,
-            answer,
-        } => {
-            get_fence_status(state, *device, *fence, *answer);
-            Ok(())
-        }
-        Call::CreateSemaphore { device, semaphore } => create_semaphore(state, *device, *semaphore),
-        Call::DestroySemaphore { device, semaphore } => {
-            destroy_semaphore(state, *device, *semaphore);
-            Ok(())
-        }
-        Call::QueueSubmit {
-            queue,
-            submits,
-            fence,
-        } => queue_submit(state, *queue, submits.items(), *fence, ops),
-        Call::QueueWaitIdle { queue } => {
-            queue_wait_idle(state, *queue);
-            Ok(())
-        }
-        Call::DeviceWaitIdle { device } => {
-            device_wait_idle(state, *device);
-            Ok(())
-        }
-        Call::CreateSwapchainKHR {
-            device,
-            swapchain,
-            surface,
-            images,
-            format,
-            width,
-            height,
-            usage,
-        } => create_swapchain(
-            state, *device, *swapchain, *surface, *images, *format, *width, *height, *usage,
-        ),
-        Call::DestroySwapchainKHR { device, swapchain } => {
-            destroy_swapchain(state, *device, *swapchain);
-            Ok(())
-        }
-        Call::GetSwapchainImagesKHR {
-            device,
-            swapchain,
-            images,
-        } => get_swapchain_images(state, *device, *swapchain, images.items()),
-        Call::AcquireNextImageKHR {
-            device,
-            swapchain,
-            semaphore,
-            fence,
-            index,
-            answer,
-        } => {
-            acquire_next_image(
-                state, *device, *swapchain, *semaphore, *fence, *index, *answer,
-            );
-            Ok(())
-        }
-        Call::QueuePresentKHR {
-            queue,
-            waits,
-            presents,
-        } => {
+    calls!(taken, state, call, ops, Call, {
+        Call::QueuePresentKHR { queue, waits, presents } => {
             queue_present(state, *queue, waits.items(), presents.items());
             Ok(())
         }
-    }
+    })
 }
 
-#[tactic(auto, using(crate::proofs::Appended::nothing_more), unfolding(crate::specs::Operations::ops_of))]
 /// Takes a metadata, and appends the operations that put its bytes. For want of memory all is as it was.
+#[tactic(auto, using(crate::proofs::Appended::nothing_more), unfolding(crate::specs::Operations::ops_of))]
 fn take_meta(state: &mut State, meta: &Meta<'_>, ops: &mut OpList) -> Result<(), WantMemory>
     requires { IsNext (state_answers state.old) (event_of_meta meta.now) }
     ensures ok { OnOk result (state_answers state.new ≡ after_event (state_answers state.old) (event_of_meta meta.now)) }
@@ -288,32 +106,7 @@ fn take_meta(state: &mut State, meta: &Meta<'_>, ops: &mut OpList) -> Result<(),
     ensures err { OnErr result (state_answers state.new ≡ state_answers state.old) }
     ensures none { OnErr result (ops.new ≡ ops.old) }
 {
-    match meta {
-        Meta::FillMemory {
-            memory,
-            offset,
-            bytes,
-        } => fill_memory(state, *memory, *offset, bytes, ops),
-        Meta::InitImage {
-            image,
-            layout,
-            bytes,
-        } => init_image(state, *image, *layout, bytes, ops),
-        Meta::SetSwapchainState {
-            swapchain,
-            acquired,
-        } => {
-            set_swapchain_state(state, *swapchain, acquired.items());
-            Ok(())
-        }
-        Meta::SetSemaphoreState {
-            semaphore,
-            signalled,
-        } => {
-            set_semaphore_state(state, *semaphore, *signalled);
-            Ok(())
-        }
-    }
+    metas!(taken, state, meta, ops, Meta, {})
 }
 
 /// Takes a marker.
