@@ -17,10 +17,6 @@ use Rattle.gfx_commands.specs.Uses.{IsIndex, plain, use_of, suits}
 use Rattle.gfx_model.specs.Layouts.{asked_in, cbs_at, executed_before, layouts_by}
 use Rattle.gfx_commands.proofs.Index.{layouts_after-append}
 
-pub layout_at : (k : Kept) (id : ℕ) (o : Option Object) → map.get k.rows id ≡ o → (answers k).layout id ≡ option_map_or (λ o. layout_of o.detail) o 0
-unfolding answers
-layout_at k id o is = ap (λ o. option_map_or (λ o. layout_of o.detail) o 0) is
-
 -- ---- lists
 
 flat_map-append : {X Y : Type 0} (f : X → List Y) (xs ys : List X) → flat_map f (xs ++ ys) ≡ flat_map f xs ++ flat_map f ys

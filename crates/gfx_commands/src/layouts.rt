@@ -2,7 +2,6 @@
 ghost use Rattle.std.specs.Prelude.{◌≡◌, ℕ, ◌<◌, ◌≤◌, true, false, not, length, slice_index, unwrap_or};
 ghost use Rattle.std.specs.FinMap as map;
 ghost use Rattle.gfx_model.specs.Checks.{meets};
-ghost use Rattle.gfx_objects.specs.Object.{layout_of as layout_in};
 ghost use Rattle.gfx_objects.specs.Objects.{answers};
 ghost use Rattle.gfx_commands.specs.Uses.{use_of, suits};
 ghost use Rattle.gfx_commands.specs.Recordings.{buffers};
@@ -10,28 +9,8 @@ ghost use Rattle.gfx_model.specs.Layouts.{asked_in, cbs_at, executed_before, lay
 
 use crate::recordings::Recordings;
 use crate::uses::Uses;
-use gfx_objects::{Detail, Objects};
+use gfx_objects::Objects;
 use gfx_types::{Submit, Submits};
-
-// The layout of an image with these parameters, UNDEFINED of anything else.
-fn layout_in(detail: &Detail) -> u32
-    ensures { result ≡ layout_in detail.now }
-{
-    match detail {
-        Detail::Image { layout, .. } => *layout,
-        _ => 0,
-    }
-}
-
-// The layout of a live image, UNDEFINED of anything else.
-fn layout_of(objects: &Objects, image: u64) -> u32
-    ensures { result ≡ (answers objects.now).layout image }
-{
-    match objects.get(image) {
-        Some(object) => layout_in(&object.detail),
-        None => 0,
-    }
-}
 
 impl Recordings {
     /// Whether the buffer at a place of a call meets a layout other than the one that it asks for, after all that the call
@@ -120,7 +99,7 @@ impl Recordings {
                 return layout;
             }
         }
-        layout_of(objects, image)
+        objects.layout(image)
     }
 
     // The layout in which these buffers leave an image, where one of them changes it.

@@ -1,29 +1,18 @@
 //! What the end of an object takes with it, and which objects are of a pool.
 ghost use Rattle.std.specs.Prelude.{◌≡◌};
-ghost use Rattle.gfx_model.specs.Questions.{is_owned, rests_on, passes, is_in_pool};
+ghost use Rattle.gfx_model.specs.Questions.{rests_on, passes, is_in_pool};
 ghost use Rattle.gfx_model.specs.After.{is_gone, is_lost};
 ghost use Rattle.gfx_objects.specs.Object.{detail_of, bound_of};
 ghost use Rattle.gfx_objects.specs.Objects.{answers};
 
 use gfx_objects::{Detail, Objects};
 
-// Whether an object with these parameters ends with its parent.
-fn is_owned(detail: &Detail) -> bool
-    ensures { result ≡ is_owned (detail_of detail.now) }
-{
-    match detail {
-        Detail::Queue | Detail::CommandBuffer => true,
-        Detail::Image { index, .. } => index.is_some(),
-        _ => false,
-    }
-}
-
 /// Whether the object is over where `gone` ends.
 pub(crate) fn is_gone(objects: &Objects, gone: u64, id: u64) -> bool
     ensures { result ≡ is_gone (answers objects.now) gone id }
 {
     match objects.get(id) {
-        Some(object) => gone == id || is_owned(&object.detail) && gone == object.parent,
+        Some(object) => gone == id || object.detail.is_owned() && gone == object.parent,
         None => false,
     }
 }

@@ -2,9 +2,11 @@
 #![tactic(auto)]
 
 mod children;
+mod detail;
 mod kinds;
 mod object;
 mod objects;
+mod questions;
 
 pub use gfx_types::MapRange;
 pub use object::{Binding, Detail, Object, Window};

@@ -1,12 +1,12 @@
 //! Live objects and their parameters.
 
-ghost use Rattle.std.specs.Prelude.{◌≡◌, ◌≤◌, IsTrue, option_map, if◌then◌else◌};
+ghost use Rattle.std.specs.Prelude.{◌≡◌, IsTrue, option_map, if◌then◌else◌};
 ghost use Rattle.gfx_model.specs.Steps.{kind_of};
-ghost use Rattle.gfx_model.specs.Questions.{is_owned, range_of};
-ghost use Rattle.gfx_model.specs.Views.{detail_size, detail_bytes};
+ghost use Rattle.gfx_model.specs.Questions.{range_of};
+ghost use Rattle.gfx_model.specs.Views.{detail_bytes};
 ghost use Rattle.gfx_objects.specs.Object.{detail_of, bound_of, mapped_of, layout_of, binding_of, is_within, is_resource, is_image, is_memory};
 
-use gfx_types::{Format, Kind, MapRange, Place};
+use gfx_types::{Kind, MapRange, Place, image_size};
 
 /// Where a resource is bound: a memory, and an offset in bytes.
 #[derive(Clone, Copy, Debug, PartialEq, Eq)]
@@ -96,24 +96,6 @@ impl Detail {
             Detail::Fence => Kind::Fence,
             Detail::Semaphore => Kind::Semaphore,
             Detail::Swapchain { .. } => Kind::Swapchain,
-        }
-    }
-
-    /// The bytes of a memory, a buffer or an image, 0 for anything else.
-    pub fn size(&self) -> u64
-        requires { IsTrue (is_within (detail_of self.now)) }
-        ensures { result ≡ detail_size (detail_of self.now) }
-    {
-        match *self {
-            Detail::Memory { size, .. } => size,
-            Detail::Buffer { size, .. } => size,
-            Detail::Image {
-                format,
-                width,
-                height,
-                ..
-            } => image_size(format, width, height),
-            _ => 0,
         }
     }
 
@@ -210,29 +192,4 @@ impl Detail {
             other => other,
         }
     }
-
-    /// Whether the object ends with its parent: a queue, a command buffer, an image of a swapchain.
-    pub(crate) fn is_owned(&self) -> bool
-        ensures { result ≡ is_owned (detail_of self.now) }
-    {
-        match self {
-            Detail::Queue | Detail::CommandBuffer => true,
-            Detail::Image { index, .. } => index.is_some(),
-            _ => false,
-        }
-    }
-}
-
-// The bytes of an image of this format and extent.
-pub(crate) fn image_size(format: u32, width: u32, height: u32) -> u64
-    requires width { width ≤ 4096 }
-    requires height { height ≤ 4096 }
-    ensures size { result ≡ Rattle.gfx_model.specs.Questions.image_size format width height }
-    ensures small { result ≤ 67108864 }
-{
-    let texel = match Format::of(format) {
-        Some(format) => format.texel(),
-        None => 0,
-    };
-    u64::from(width) * u64::from(height) * texel
 }

@@ -18,9 +18,9 @@ ghost use Rattle.gfx_objects.specs.Objects.{answers, next_of, IsRow, RestsIn, Is
 
 use crate::children::ChildCounts;
 use crate::kinds::{KindIds, number_of};
-use crate::object::{Binding, Detail, Object, Window, image_size};
+use crate::object::{Binding, Detail, Object, Window};
 use gfx_table::{Table, UsedIds};
-use gfx_types::{Kind, MapRange, Place, WantMemory};
+use gfx_types::{Kind, MapRange, Place, WantMemory, image_size};
 use std::alloc::{AllocError, Global};
 use std::marker::Model;
 
@@ -92,16 +92,6 @@ impl Objects {
         ensures { result ≡ (answers self.now).used id }
     {
         self.used.contains(id)
-    }
-
-    /// The bytes of a live memory, buffer or image, 0 for any other id.
-    pub fn size(&self, id: u64) -> u64
-        ensures { result ≡ view.size_of (answers self.now) id }
-    {
-        match self.get(id) {
-            Some(object) => object.detail.size(),
-            None => 0,
-        }
     }
 
     /// How many live objects have this parent.

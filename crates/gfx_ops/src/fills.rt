@@ -2,13 +2,12 @@
 ghost use Rattle.std.specs.Prelude.{◌≡◌, ◌+◌, ◌<◌, ◌^◌, ◌++◌, OnOk, OnErr};
 ghost use Rattle.gfx_types.specs.declared.op.Op.TheVariants as op;
 ghost use Rattle.gfx_model.specs.Events.Event.{CmdFillBuffer, CmdUpdateBuffer, CmdClearColorImage};
-ghost use Rattle.gfx_model.specs.Views as views;
 ghost use Rattle.gfx_model.specs.Effects as effects;
 ghost use Rattle.gfx_laws.specs.Lawful.{CommandPasses};
 ghost use Rattle.gfx_objects.specs.Objects.{answers};
 ghost use Rattle.gfx_ops.specs.Operations.{ops_of_command};
 
-use gfx_objects::{Detail, Objects, Window};
+use gfx_objects::{Objects, Window};
 use gfx_types::{Op, OpList, Piece, WantMemory};
 use std::alloc::Global;
 
@@ -113,22 +112,8 @@ pub(crate) fn clear_image(
         place: window.place,
         offset: window.offset,
         length: window.length,
-        word: clear_word(format_at(objects, image), c0, c1, c2, c3),
+        word: clear_word(objects.format(image), c0, c1, c2, c3),
     })
-}
-
-// The number of an image's format, 0 where the id is of none.
-fn format_at(objects: &Objects, image: u64) -> u32
-    ensures { result ≡ views.format_at (answers objects.now) image }
-{
-    let Some(object) = objects.get(image) else {
-        return 0;
-    };
-    match object.detail {
-        Detail::Image { format, .. } => format,
-        Detail::Swapchain { format, .. } => format,
-        _ => 0,
-    }
 }
 
 // The word that clears an image of this format.

@@ -5,10 +5,6 @@ ghost use Rattle.gfx_model.specs.Table.{checks_of};
 ghost use Rattle.gfx_model.specs.Checks.{first_broken};
 ghost use Rattle.gfx_tracker.specs.State.{state_answers};
 
-use crate::details::{
-    flags_in, format_in, height_in, is_bound_in, layout_in, mapped_in, usage_in, wanted_in,
-    width_in,
-};
 use crate::sought;
 use crate::state::State;
 use gfx_commands::CbState;
@@ -62,56 +58,35 @@ impl Answers for State {
     }
 
     fn usage_of(&self, id: u64) -> u32 {
-        match self.registry.objects.get(id) {
-            Some(object) => usage_in(&object.detail),
-            None => 0,
-        }
+        self.registry.objects.usage(id)
     }
 
     fn format_at(&self, id: u64) -> u32 {
-        match self.registry.objects.get(id) {
-            Some(object) => format_in(&object.detail),
-            None => 0,
-        }
+        self.registry.objects.format(id)
     }
 
     fn width_of(&self, id: u64) -> u32 {
-        match self.registry.objects.get(id) {
-            Some(object) => width_in(&object.detail),
-            None => 0,
-        }
+        self.registry.objects.width(id)
     }
 
     fn height_of(&self, id: u64) -> u32 {
-        match self.registry.objects.get(id) {
-            Some(object) => height_in(&object.detail),
-            None => 0,
-        }
+        self.registry.objects.height(id)
     }
 
     fn images_in(&self, swapchain: u64) -> u32 {
-        sought::images_of(&self.registry.objects, swapchain)
+        self.registry.objects.images(swapchain)
     }
 
     fn flags_of(&self, pool: u64) -> u32 {
-        match self.registry.objects.get(pool) {
-            Some(object) => flags_in(&object.detail),
-            None => 0,
-        }
+        self.registry.objects.flags(pool)
     }
 
     fn mapped(&self, memory: u64) -> Option<MapRange> {
-        match self.registry.objects.get(memory) {
-            Some(object) => mapped_in(&object.detail),
-            None => None,
-        }
+        self.registry.objects.mapped(memory)
     }
 
     fn is_bound(&self, id: u64) -> bool {
-        match self.registry.objects.get(id) {
-            Some(object) => is_bound_in(&object.detail),
-            None => false,
-        }
+        self.registry.objects.is_bound(id)
     }
 
     fn is_usable(&self, id: u64) -> bool {
@@ -119,10 +94,7 @@ impl Answers for State {
     }
 
     fn wanted_by(&self, image: u64) -> u64 {
-        match self.registry.objects.get(image) {
-            Some(object) => wanted_in(&object.detail),
-            None => 0,
-        }
+        self.registry.objects.wanted(image)
     }
 
     fn is_recording(&self, cb: u64) -> bool {
@@ -154,10 +126,7 @@ impl Answers for State {
     }
 
     fn layout_of(&self, image: u64) -> u32 {
-        match self.registry.objects.get(image) {
-            Some(object) => layout_in(&object.detail),
-            None => 0,
-        }
+        self.registry.objects.layout(image)
     }
 
     fn next_frame(&self) -> u64 {

@@ -5,7 +5,6 @@ mod asked;
 mod buffers;
 mod commands;
 mod creations;
-mod details;
 mod each;
 mod end;
 mod ends;

@@ -8,7 +8,7 @@ ghost use Rattle.gfx_tracker.specs.State.{state_answers};
 ghost use Rattle.gfx_tracker.specs.Taking.{after_event, IsNext};
 
 use crate::state::State;
-use gfx_objects::{Detail, Objects};
+use gfx_objects::Objects;
 
 /// The row of MapMemory; WHOLE_SIZE maps to the end.
 pub(crate) fn map_memory(state: &mut State, _device: u64, memory: u64, offset: u64, size: u64)
@@ -21,27 +21,12 @@ pub(crate) fn map_memory(state: &mut State, _device: u64, memory: u64, offset: u
 
 // The bytes that a map of a live memory has.
 fn mapped_length(objects: &Objects, memory: u64, offset: u64, size: u64) -> u64
-    requires { view.is_live (answers objects.now) kind.Memory memory ≡ true }
     ensures { result ≡ (if size == 18446744073709551615 then view.size_of (answers objects.now) memory - offset else size) }
 {
     if size == u64::MAX {
-        memory_size(objects, memory).saturating_sub(offset)
+        objects.size(memory).saturating_sub(offset)
     } else {
         size
-    }
-}
-
-// The size of a live memory, in bytes.
-fn memory_size(objects: &Objects, memory: u64) -> u64
-    requires { view.is_live (answers objects.now) kind.Memory memory ≡ true }
-    ensures { result ≡ view.size_of (answers objects.now) memory }
-{
-    let Some(object) = objects.get(memory) else {
-        unreachable!()
-    };
-    match object.detail {
-        Detail::Memory { size, .. } => size,
-        _ => unreachable!(),
     }
 }
 

@@ -15,6 +15,7 @@ use crate::creations::{
     allocate_memory, create_buffer, create_command_pool, create_device, create_fence, create_image,
     create_instance, create_semaphore, create_surface, create_swapchain,
 };
+use crate::end::RowEnd;
 use crate::ends::{
     destroy_buffer, destroy_command_pool, destroy_device, destroy_fence, destroy_image,
     destroy_instance, destroy_semaphore, destroy_surface, destroy_swapchain, free_memory,
@@ -29,7 +30,6 @@ use crate::state::State;
 use crate::submits::queue_submit;
 use crate::swapchains::{acquire_next_image, get_swapchain_images};
 use crate::waits::{device_wait_idle, get_fence_status, queue_wait_idle, wait_for_fences};
-use crate::end::RowEnd;
 use gfx_types::{Call, Effect, Meta, OpList, WantMemory, argument, calls, metas};
 
 /// Takes an effect and appends its operations. For want of memory all is as it was.

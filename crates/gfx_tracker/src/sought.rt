@@ -5,7 +5,6 @@ ghost use Rattle.gfx_model.specs.Views as view;
 ghost use Rattle.gfx_objects.specs.Object.{made};
 ghost use Rattle.gfx_objects.specs.Objects.{answers};
 
-use crate::details::{has_index, images_in, is_on, is_queue};
 use gfx_objects::{Object, Objects};
 use gfx_types::Kind;
 
@@ -39,10 +38,10 @@ impl Sought {
         ensures { result ≡ is_sought self (made object.now) }
     {
         match self {
-            Sought::QueueOf(device) => object.parent == device && is_queue(&object.detail),
-            Sought::SwapchainOn(surface) => is_on(&object.detail, surface),
+            Sought::QueueOf(device) => object.parent == device && object.detail.is_queue(),
+            Sought::SwapchainOn(surface) => object.detail.is_on(surface),
             Sought::ImageAt(swapchain, index) => {
-                object.parent == swapchain && has_index(&object.detail, index)
+                object.parent == swapchain && object.detail.has_index(index)
             }
         }
     }
@@ -100,21 +99,11 @@ pub(crate) fn has_swapchain(objects: &Objects, surface: u64) -> bool
     Sought::SwapchainOn(surface).first(objects).is_some()
 }
 
-/// How many images a live swapchain has, 0 for any other id.
-pub(crate) fn images_of(objects: &Objects, swapchain: u64) -> u32
-    ensures { result ≡ view.images_in (answers objects.now) swapchain }
-{
-    match objects.get(swapchain) {
-        Some(object) => images_in(&object.detail),
-        None => 0,
-    }
-}
-
 /// The fetched image of a swapchain at a place.
 pub(crate) fn fetched_at(objects: &Objects, swapchain: u64, place: usize) -> Option<u64>
     ensures { result ≡ slice_get (view.fetched (answers objects.now) swapchain) place }
 {
-    let images = images_of(objects, swapchain);
+    let images = objects.images(swapchain);
     let mut left = place;
     'indices: for index in 0..images {
         match Sought::ImageAt(swapchain, index).at(objects, left) {

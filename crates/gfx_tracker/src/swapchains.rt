@@ -6,7 +6,6 @@ ghost use Rattle.gfx_objects.specs.Objects.{answers};
 ghost use Rattle.gfx_tracker.specs.State.{state_answers};
 ghost use Rattle.gfx_tracker.specs.Taking.{after_event, IsNext};
 
-use crate::details::{format_in, height_in, image_usage_in, width_in};
 use crate::each::signal_any;
 use crate::sought::fetched_at;
 use crate::state::State;
@@ -66,19 +65,11 @@ fn shape_of(objects: &Objects, swapchain: u64) -> Shape
     ensures height { result.height ≡ height_of (answers objects.now) swapchain }
     ensures usage { result.usage ≡ usage_in (answers objects.now) swapchain }
 {
-    match objects.get(swapchain) {
-        Some(object) => Shape {
-            format: format_in(&object.detail),
-            width: width_in(&object.detail),
-            height: height_in(&object.detail),
-            usage: image_usage_in(&object.detail),
-        },
-        None => Shape {
-            format: 0,
-            width: 0,
-            height: 0,
-            usage: 0,
-        },
+    Shape {
+        format: objects.format(swapchain),
+        width: objects.width(swapchain),
+        height: objects.height(swapchain),
+        usage: objects.image_usage(swapchain),
     }
 }
 

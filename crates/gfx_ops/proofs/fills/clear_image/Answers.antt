@@ -12,5 +12,5 @@ pub returns-clause-ok : goal.returns-clause-ok
 returns-clause-ok c =
     subst (λ more. OnOk c.push.result (c.push.new.self ≡ c.args.ops.now ++ more))
     (clear_ops (answers c.args.objects.now) c.args._cb c.args.image c.args._layout c.args.c0 c.args.c1 c.args.c2 c.args.c3 c.clear_word.result (window_of c.in-Some.window) c.in-Some.ensures.window
-    (c.clear_word.ensures ∙ ap (λ f. clear_word f c.args.c0 c.args.c1 c.args.c2 c.args.c3) c.format_at.ensures))
+    (c.clear_word.ensures ∙ ap (λ f. clear_word f c.args.c0 c.args.c1 c.args.c2 c.args.c3) c.format.ensures))
     c.push.ensures.ok

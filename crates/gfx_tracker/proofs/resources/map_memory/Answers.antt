@@ -12,12 +12,6 @@ use Rattle.gfx_tracker.specs.State.{state_answers}
 use Rattle.gfx_tracker.proofs.Next.{is_live_by, after_one}
 use Rattle.gfx_tracker.proofs.resources.map_memory.Goals as goal
 
-pub mapped_length-length-requires : goal.mapped_length-length-requires
-unfolding place_of row_of id_of
-mapped_length-length-requires c =
-    let v = state_answers c.args.state.now in
-    is_live_by v kind.Memory c.args.memory (all_pass v (checks_of (MapMemory c.args._device c.args.memory c.args.offset c.args.size)) c.requires.passes).1.0
-
 pub map-requires : goal.map-requires
 unfolding place_of row_of id_of
 map-requires c =

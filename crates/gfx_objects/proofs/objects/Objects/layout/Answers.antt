@@ -3,11 +3,11 @@ use Rattle.std.specs.Option.{option_map_or}
 use Rattle.gfx_objects.specs.declared.object.Object.{Object}
 use Rattle.gfx_objects.specs.Object.{layout_of}
 use Rattle.gfx_objects.specs.Objects.{answers}
-use Rattle.gfx_tracker.proofs.asked.StateAnswers.layout_of.Goals as goal
+use Rattle.gfx_objects.proofs.objects.Objects.layout.Goals as goal
 
 pub returns-in-Some : goal.returns-in-Some
 unfolding answers
-returns-in-Some c = c.layout_in.ensures ∙ ap (λ (q : Option Object). option_map_or (λ (o : Object). layout_of o.detail) q 0) c.in-Some.ensures.row
+returns-in-Some c = c.layout.ensures ∙ ap (λ (q : Option Object). option_map_or (λ (o : Object). layout_of o.detail) q 0) c.in-Some.ensures.row
 
 pub returns-in-None : goal.returns-in-None
 unfolding answers

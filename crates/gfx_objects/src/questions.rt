@@ -1,0 +1,131 @@
+//! What is asked of one object.
+ghost use Rattle.std.specs.Prelude.{◌≡◌, is_some, option_map};
+ghost use Rattle.gfx_model.specs.Questions.{range_of};
+ghost use Rattle.gfx_model.specs.Checks as words;
+ghost use Rattle.gfx_model.specs.Views as view;
+ghost use Rattle.gfx_objects.specs.Objects.{answers};
+
+use crate::objects::Objects;
+use gfx_types::MapRange;
+
+impl Objects {
+    /// The bytes of a live memory, buffer or image, 0 for any other id.
+    pub fn size(&self, id: u64) -> u64
+        ensures { result ≡ view.size_of (answers self.now) id }
+    {
+        match self.get(id) {
+            Some(object) => object.detail.size(),
+            None => 0,
+        }
+    }
+
+    /// The usage of a live buffer or image, 0 for any other id.
+    pub fn usage(&self, id: u64) -> u32
+        ensures { result ≡ view.usage_of (answers self.now) id }
+    {
+        match self.get(id) {
+            Some(object) => object.detail.usage(),
+            None => 0,
+        }
+    }
+
+    /// The format of a live image or swapchain, 0 for any other id.
+    pub fn format(&self, id: u64) -> u32
+        ensures { result ≡ view.format_at (answers self.now) id }
+    {
+        match self.get(id) {
+            Some(object) => object.detail.format(),
+            None => 0,
+        }
+    }
+
+    /// The width of a live image or swapchain, 0 for any other id.
+    pub fn width(&self, id: u64) -> u32
+        ensures { result ≡ view.width_of (answers self.now) id }
+    {
+        match self.get(id) {
+            Some(object) => object.detail.width(),
+            None => 0,
+        }
+    }
+
+    /// The height of a live image or swapchain, 0 for any other id.
+    pub fn height(&self, id: u64) -> u32
+        ensures { result ≡ view.height_of (answers self.now) id }
+    {
+        match self.get(id) {
+            Some(object) => object.detail.height(),
+            None => 0,
+        }
+    }
+
+    /// How many images a live swapchain has, 0 for any other id.
+    pub fn images(&self, id: u64) -> u32
+        ensures { result ≡ view.images_in (answers self.now) id }
+    {
+        match self.get(id) {
+            Some(object) => object.detail.images(),
+            None => 0,
+        }
+    }
+
+    /// The usage of the images of a live swapchain, 0 for any other id.
+    pub fn image_usage(&self, id: u64) -> u32
+        ensures { result ≡ view.usage_in (answers self.now) id }
+    {
+        match self.get(id) {
+            Some(object) => object.detail.image_usage(),
+            None => 0,
+        }
+    }
+
+    /// The flags of a live pool, 0 for any other id.
+    pub fn flags(&self, id: u64) -> u32
+        ensures { result ≡ view.ask view.detail_flags (answers self.now) id }
+    {
+        match self.get(id) {
+            Some(object) => object.detail.flags(),
+            None => 0,
+        }
+    }
+
+    /// The mapped range of a memory.
+    pub fn mapped(&self, id: u64) -> Option<MapRange>
+        ensures { option_map range_of result ≡ (answers self.now).mapped id }
+    {
+        match self.get(id) {
+            Some(object) => object.detail.mapped(),
+            None => None,
+        }
+    }
+
+    /// Whether a live resource was bound.
+    pub fn is_bound(&self, id: u64) -> bool
+        ensures { result ≡ is_some ((answers self.now).bound id) }
+    {
+        match self.get(id) {
+            Some(object) => object.detail.is_bound(),
+            None => false,
+        }
+    }
+
+    /// How many bytes an InitImage of this image has to have, 0 for any other id.
+    pub fn wanted(&self, id: u64) -> u64
+        ensures { result ≡ words.wanted_by (answers self.now) id }
+    {
+        match self.get(id) {
+            Some(object) => object.detail.wanted(),
+            None => 0,
+        }
+    }
+
+    /// The newest layout of a live image, 0 for any other id.
+    pub fn layout(&self, id: u64) -> u32
+        ensures { result ≡ (answers self.now).layout id }
+    {
+        match self.get(id) {
+            Some(object) => object.detail.layout(),
+            None => 0,
+        }
+    }
+}
