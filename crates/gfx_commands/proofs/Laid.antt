@@ -9,9 +9,6 @@ use Rattle.std.specs.FinMap.{FinMap}
 use Rattle.gfx_types.specs.declared.lists.Submit.{Submit}
 use Rattle.gfx_model.specs.Questions.{Buffer}
 use Rattle.gfx_model.specs.Checks.{Layouts, meets, layouts_after}
-use Rattle.gfx_objects.specs.declared.object.Object.{Object}
-use Rattle.gfx_objects.specs.Object.{layout_of}
-use Rattle.gfx_objects.specs.Objects.{Kept, answers}
 use Rattle.gfx_commands.specs.declared.uses.Use.{Use}
 use Rattle.gfx_commands.specs.Uses.{IsIndex, plain, use_of, suits}
 use Rattle.gfx_model.specs.Layouts.{asked_in, cbs_at, executed_before, layouts_by}

@@ -6,11 +6,11 @@ use Rattle.std.specs.FinMap.{FinMap}
 use Rattle.std.proofs.lemmas.Bool.Decides.{nat_tests}
 use Rattle.gfx_table.specs.Slots.{least_above}
 use Rattle.gfx_table.specs.Rows.{least_above-higher}
-use Rattle.gfx_model.specs.Questions.{Buffer, new_buffer, passes, invalidated, is_in_pool}
+use Rattle.gfx_model.specs.Questions.{Buffer, new_buffer, passes, is_in_pool}
 use Rattle.gfx_model.specs.Views.{View}
-use Rattle.gfx_model.specs.After.{is_gone, buffer_after_end}
+use Rattle.gfx_model.specs.After.{is_gone}
 use Rattle.gfx_commands.specs.declared.recording.Recording.{Recording}
-use Rattle.gfx_commands.specs.Recording.{names}
+use Rattle.gfx_commands.specs.Changes.{pool_reset, user_invalidated, end_of}
 use Rattle.gfx_commands.specs.Recordings.{buffers}
 use Rattle.gfx_commands.proofs.Buffers.{found}
 use Rattle.gfx_commands.proofs.Rising.{least_first, least_none}
@@ -65,19 +65,7 @@ module _ (change : ℕ → Buffer → Buffer) (stable : (x : ℕ) → change x n
             let above : after < x = grind (arith, nat_tests, e) in
             passed x ∙ ap (λ t. if t then change x (first x) else first x) e ∙ sym (unchanged x (least_none m after is x above) above)
 
--- ---- the changes
-
--- a pool that is reset
-abbrev pub pool_reset : View → ℕ → ℕ → Buffer → Buffer
-pool_reset v pool x b = if passes (is_in_pool pool) (v.live x) then new_buffer else b
-
--- a resource whose users become invalid
-abbrev pub user_invalidated : ℕ → ℕ → Buffer → Buffer
-user_invalidated resource x b = invalidated (names resource b) b
-
--- an object that ends
-abbrev pub end_of : View → ℕ → ℕ → Buffer → Buffer
-end_of v gone x b = if is_gone v gone x then new_buffer else buffer_after_end v gone b
+-- ---- the changes leave a new buffer as it is
 
 pub reset_stable : (v : View) (pool x : ℕ) → pool_reset v pool x new_buffer ≡ new_buffer
 reset_stable v pool x = cases (passes (is_in_pool pool) (v.live x))

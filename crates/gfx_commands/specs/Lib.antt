@@ -7,3 +7,4 @@ pub mod Recordings
 pub mod Counted
 pub mod Runnable
 pub mod Distinct
+pub mod Changes

@@ -1,6 +1,7 @@
 //! What is recorded in each command buffer.
 #![tactic(auto)]
 
+mod changes;
 mod commands;
 mod layouts;
 mod lost;

@@ -21,6 +21,7 @@ ghost use Rattle.gfx_commands.specs.Uses.{IsIndex};
 ghost use Rattle.gfx_model.specs.Layouts.{asked_in};
 ghost use Rattle.gfx_commands.specs.Recordings.{buffers, commands_total, bytes_total, HoldsKept};
 
+use crate::changes::{BufferChange, ObjectEnd, PoolReset, UserInvalidated};
 use crate::lost::{is_gone, is_in_pool};
 use crate::recorded::Recorded;
 use crate::recording::{CbState, Recording};
@@ -215,24 +216,14 @@ impl Recordings {
     pub fn reset_pool(&mut self, pool: u64, objects: &Objects)
         ensures { buffers self.new ≡ (λ x. if passes (is_in_pool pool) ((answers objects.now).live x) then new_buffer else buffers self.old x) }
     {
-        self.reset_one(0, pool, objects);
-        let mut after = 0;
-        'rows: while let Some(cb) = self.next(after) {
-            self.reset_one(cb, pool, objects);
-            after = cb;
-        }
+        self.each(&PoolReset { pool, objects });
     }
 
     /// Recording and executable buffers that name the resource become invalid.
     pub fn invalidate_users(&mut self, resource: u64)
         ensures { buffers self.new ≡ (λ x. invalidated (names resource (buffers self.old x)) (buffers self.old x)) }
     {
-        self.invalidate_user(0, resource);
-        let mut after = 0;
-        'rows: while let Some(cb) = self.next(after) {
-            self.invalidate_user(cb, resource);
-            after = cb;
-        }
+        self.each(&UserInvalidated { resource });
     }
 
     /// What the end of an object makes of all buffers: those that go with it are as new ones, and those that name a
@@ -240,12 +231,7 @@ impl Recordings {
     pub fn end_object(&mut self, gone: u64, objects: &Objects)
         ensures { buffers self.new ≡ (λ x. if is_gone (answers objects.now) gone x then new_buffer else buffer_after_end (answers objects.now) gone (buffers self.old x)) }
     {
-        self.end_one(0, gone, objects);
-        let mut after = 0;
-        'rows: while let Some(cb) = self.next(after) {
-            self.end_one(cb, gone, objects);
-            after = cb;
-        }
+        self.each(&ObjectEnd { gone, objects });
     }
 
     /// Appends what the commands of a buffer do to a list of operations. Each of them breaks no check of its row but
@@ -279,6 +265,19 @@ impl Recordings {
         }
     }
 
+    // Makes a change of each buffer. Any other id is as a new buffer, which stays as it is.
+    fn each<C: BufferChange>(&mut self, change: &C)
+        requires { (x : ℕ) → C.changed change.now x new_buffer ≡ new_buffer }
+        ensures { buffers self.new ≡ (λ x. C.changed change.now x (buffers self.old x)) }
+    {
+        change.make(self, 0);
+        let mut after = 0;
+        'rows: while let Some(cb) = self.next(after) {
+            change.make(self, cb);
+            after = cb;
+        }
+    }
+
     // The least kept buffer above an id.
     fn next(&self, after: u64) -> Option<u64>
         ensures { result ≡ least_above self.now after }
@@ -287,7 +286,7 @@ impl Recordings {
     }
 
     // The buffer is as a new one, where it is of the pool.
-    fn reset_one(&mut self, cb: u64, pool: u64, objects: &Objects)
+    pub(crate) fn reset_one(&mut self, cb: u64, pool: u64, objects: &Objects)
         ensures { buffers self.new ≡ (λ x. if cb == x then (if passes (is_in_pool pool) ((answers objects.now).live x) then new_buffer else buffers self.old x) else buffers self.old x) }
     {
         if is_in_pool(objects, pool, cb) {
@@ -296,7 +295,7 @@ impl Recordings {
     }
 
     // A buffer that names the resource becomes invalid.
-    fn invalidate_user(&mut self, cb: u64, resource: u64)
+    pub(crate) fn invalidate_user(&mut self, cb: u64, resource: u64)
         ensures { buffers self.new ≡ (λ x. if cb == x then invalidated (names resource (buffers self.old x)) (buffers self.old x) else buffers self.old x) }
     {
         if self.names(cb, resource) {
@@ -316,7 +315,7 @@ impl Recordings {
     }
 
     // What the end of an object makes of the buffer.
-    fn end_one(&mut self, cb: u64, gone: u64, objects: &Objects)
+    pub(crate) fn end_one(&mut self, cb: u64, gone: u64, objects: &Objects)
         ensures { buffers self.new ≡ (λ x. if cb == x then (if is_gone (answers objects.now) gone x then new_buffer else buffer_after_end (answers objects.now) gone (buffers self.old x)) else buffers self.old x) }
     {
         if is_gone(objects, gone, cb) {

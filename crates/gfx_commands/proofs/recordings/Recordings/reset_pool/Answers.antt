@@ -1,23 +1,6 @@
-use Rattle.std.proofs.Common.{◌<◌, ◌^◌, sym, arith}
-use Rattle.gfx_table.specs.Rows.{least_above-higher}
 use Rattle.gfx_objects.specs.Objects.{answers}
-use Rattle.gfx_commands.specs.Recordings.{buffers}
-use Rattle.gfx_commands.proofs.Passing.{pool_reset, reset_stable, one_more, at_end}
+use Rattle.gfx_commands.proofs.Passing.{reset_stable}
 use Rattle.gfx_commands.proofs.recordings.Recordings.reset_pool.Goals as goal
 
-pub rows-smaller : goal.rows-smaller
-rows-smaller c =
-    let above = least_above-higher c.rows.self c.rows.after c.in-Some.cb (sym c.in-Some.ensures) in
-    let fits : c.in-Some.cb < 2 ^ 64 = omega arith in
-    omega (arith, above, fits)
-
-pub rows-preserved : goal.rows-preserved
-rows-preserved c =
-    let v = answers c.args.objects.now in
-    one_more (pool_reset v c.args.pool) (reset_stable v c.args.pool) (buffers c.args.self.now) c.rows.self c.rows.after c.rows.invariant c.in-Some.cb c.reset_one-in-Some.new.self
-    (sym c.in-Some.ensures) c.reset_one-in-Some.ensures
-
-pub returns : goal.returns
-returns c =
-    let v = answers c.args.objects.now in
-    at_end (pool_reset v c.args.pool) (reset_stable v c.args.pool) (buffers c.args.self.now) c.rows.self c.rows.after c.rows.invariant (sym c.in_default.ensures)
+pub each-requires : goal.each-requires
+each-requires c = reset_stable (answers c.args.objects.now) c.args.pool
