@@ -78,7 +78,7 @@ among_filter t x (y ∷ ys) = by (t y) refl (among_filter t x ys)
     by true k ih = ap (λ r. (y == x) || r) ih ∙ at (y == x) refl k
     by false k ih = ih ∙ off (y == x) refl k
 
-all_filter : (P : ℕ → Type 0) (t : ℕ → Bool) (xs : List ℕ) → AllByRecursion P xs → AllByRecursion P (filter t xs)
+pub all_filter : (P : ℕ → Type 0) (t : ℕ → Bool) (xs : List ℕ) → AllByRecursion P xs → AllByRecursion P (filter t xs)
 all_filter P t [] a = tt
 all_filter P t (x ∷ xs) a = by (t x) (all_filter P t xs a.1)
   where

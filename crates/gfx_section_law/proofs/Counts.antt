@@ -17,7 +17,7 @@ use Rattle.gfx_model.proofs.Lists.{all_append}
 use Rattle.gfx_section_law.specs.Orderly.{IsOrderly}
 use Rattle.gfx_section_law.proofs.Picks.{length-filter, sum-part}
 use Rattle.gfx_section_law.proofs.Ranks.{live_object}
-use Rattle.gfx_section_law.proofs.Spans.{rising_filter}
+use Rattle.gfx_laws.proofs.LawfulIds.{rising_filter}
 use Rattle.gfx_section_law.proofs.Parts.{all_among, filtered}
 use Rattle.gfx_section_law.proofs.Sizes.{IsSmall, fixed_small}
 use Rattle.gfx_section_law.proofs.BlockSizes.{block_few, block_small}

@@ -21,7 +21,8 @@ use Rattle.gfx_section_law.proofs.Shown.{Cuts, all, shown, shown_answers, byte_o
 use Rattle.gfx_section_law.proofs.Ranks.{is_part, joined}
 use Rattle.gfx_section_law.proofs.Objects.{live_ok, no_bound, no_layout, no_mapped, no_buffer, no_signal, no_acquired, no_bytes, new_ok, room_ok}
 use Rattle.gfx_section_law.proofs.Plain.{Starts, Block, made_first}
-use Rattle.gfx_section_law.proofs.Parts.{alsos, pick_same, bytes_same, SettlesAll, settled_all, joined_parts, AreNew, are_new, all_among}
+use Rattle.gfx_section_law.proofs.Shown.{SettlesAll, settled_all}
+use Rattle.gfx_section_law.proofs.Parts.{alsos, pick_same, bytes_same, joined_parts, AreNew, are_new, all_among}
 use Rattle.gfx_section_law.proofs.Many.{differ, differ_here}
 use Rattle.gfx_section_law.proofs.PoolBuffers as buffers
 use Rattle.gfx_section_law.proofs.Recording as recording

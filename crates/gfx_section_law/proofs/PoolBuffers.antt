@@ -26,7 +26,7 @@ use Rattle.gfx_section_law.proofs.Shown.{Cuts, shown, shown_answers, bytes_shown
 use Rattle.gfx_section_law.proofs.Ranks.{live_object, is_part, goes_by, device_before}
 use Rattle.gfx_section_law.proofs.Objects.{live_shown, live_ok}
 use Rattle.gfx_section_law.proofs.Plain.{Starts, only_made, new_here}
-use Rattle.gfx_section_law.proofs.Spans.{rising_filter}
+use Rattle.gfx_laws.proofs.LawfulIds.{rising_filter}
 use Rattle.gfx_section_law.proofs.Parts.{alsos, alsos-out, alsos-among, AreNew, are_new, all_among, among_filter, filtered, in_filtered}
 use Rattle.gfx_section_law.proofs.Many.{AreObjects, creations, many_shown, many_bytes, many_room, many_new_each}
 

@@ -31,27 +31,19 @@ use Rattle.gfx_section_law.proofs.BlockSizes.{all_when, fetched_few, chain_limit
 use Rattle.gfx_section_law.proofs.Sizes.{area_small}
 
 -- one of a few numbers
+among_small : (l : ℕ) (xs : List ℕ) → AllByRecursion (λ x. x < 2 ^ 32) xs → is_among l xs ≡ true → l < 2 ^ 32
+among_small l [] a e = absurd (cc)
+among_small l (x ∷ xs) a e = by (x == l) refl e (among_small l xs a.1)
+  where
+    by : (t : Bool) → (x == l) ≡ t → t || is_among l xs ≡ true → (is_among l xs ≡ true → l < 2 ^ 32) → l < 2 ^ 32
+    by true s e more = subst (λ z. z < 2 ^ 32) (eqb-true x l s) a.0
+    by false s e more = more e
+
 layout_small : (l : ℕ) → is_layout l ≡ true → l < 2 ^ 32
 layout_small l e = among_small l (0 ∷ 1 ∷ 6 ∷ 7 ∷ 1000001002 ∷ []) (omega arith, (omega arith, (omega arith, (omega arith, (omega arith, tt))))) e
-  where
-    among_small : (l : ℕ) (xs : List ℕ) → AllByRecursion (λ x. x < 2 ^ 32) xs → is_among l xs ≡ true → l < 2 ^ 32
-    among_small l [] a e = absurd (cc)
-    among_small l (x ∷ xs) a e = by (x == l) refl e (among_small l xs a.1)
-      where
-        by : (t : Bool) → (x == l) ≡ t → t || is_among l xs ≡ true → (is_among l xs ≡ true → l < 2 ^ 32) → l < 2 ^ 32
-        by true s e more = subst (λ z. z < 2 ^ 32) (eqb-true x l s) a.0
-        by false s e more = more e
 
 flags_small : (l : ℕ) → is_among l (0 ∷ 1 ∷ 4 ∷ 5 ∷ []) ≡ true → l < 2 ^ 32
 flags_small l e = among_small l (0 ∷ 1 ∷ 4 ∷ 5 ∷ []) (omega arith, (omega arith, (omega arith, (omega arith, tt)))) e
-  where
-    among_small : (l : ℕ) (xs : List ℕ) → AllByRecursion (λ x. x < 2 ^ 32) xs → is_among l xs ≡ true → l < 2 ^ 32
-    among_small l [] a e = absurd (cc)
-    among_small l (x ∷ xs) a e = by (x == l) refl e (among_small l xs a.1)
-      where
-        by : (t : Bool) → (x == l) ≡ t → t || is_among l xs ≡ true → (is_among l xs ≡ true → l < 2 ^ 32) → l < 2 ^ 32
-        by true s e more = subst (λ z. z < 2 ^ 32) (eqb-true x l s) a.0
-        by false s e more = more e
 
 mark_small : (t : Bool) → mark t < 2 ^ 32
 mark_small true = omega arith

@@ -25,7 +25,7 @@ use Rattle.gfx_section_law.proofs.Memory.{memory_block}
 use Rattle.gfx_section_law.proofs.Swapchain.{swapchain_block}
 use Rattle.gfx_section_law.proofs.SwapchainFetch.{any-none}
 use Rattle.gfx_section_law.proofs.Pool.{pool_block}
-use Rattle.gfx_section_law.proofs.Spans.{rising_filter}
+use Rattle.gfx_laws.proofs.LawfulIds.{rising_filter}
 use Rattle.gfx_section_law.proofs.Parts.{all_among, among_filter, filtered}
 
 -- the place of a kind in the section

@@ -18,7 +18,8 @@ use Rattle.gfx_section_law.proofs.Shown.{Cuts, all, shown, shown_answers, byte_o
 use Rattle.gfx_section_law.proofs.Ranks.{joined}
 use Rattle.gfx_section_law.proofs.Objects.{no_bound, no_layout, no_mapped, no_buffer, no_signal, no_acquired, no_bytes}
 use Rattle.gfx_section_law.proofs.Plain.{Starts, Block, made_first}
-use Rattle.gfx_section_law.proofs.Parts.{alsos, pick_same, bytes_same, SettlesAll, settled_all, joined_parts}
+use Rattle.gfx_section_law.proofs.Shown.{SettlesAll, settled_all}
+use Rattle.gfx_section_law.proofs.Parts.{alsos, pick_same, bytes_same, joined_parts}
 use Rattle.gfx_section_law.proofs.Images.{each_image, each_part, every_part}
 use Rattle.gfx_section_law.proofs.Many.{differ, differ_here, differ_parts}
 use Rattle.gfx_section_law.proofs.SwapchainFetch as its_fetch
