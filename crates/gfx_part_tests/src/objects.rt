@@ -87,7 +87,8 @@ fn bind(objects: &mut Objects, id: u64, memory: u64, offset: u64) -> Result<(), 
     if !objects.is_live(Kind::Buffer, id) || !objects.is_live(Kind::Memory, memory) {
         return Err("no buffer or no memory".into());
     }
-    if offset > 1000 || offset + objects.size(id) > objects.size(memory) {
+    let room = objects.size(memory);
+    if offset > room || objects.size(id) > room - offset {
         return Err("out of range".into());
     }
     objects.bind(id, memory, offset);
