@@ -84,3 +84,25 @@ bind_alignment = 16
 -- the bytes of a page of memory
 abbrev pub page_size : ℕ
 page_size = 65536
+
+-- ---- scripts and logs
+
+-- a line of a script
+abbrev pub max_line : ℕ
+max_line = 2 ^ 20
+
+-- the lines of a script
+abbrev pub max_lines : ℕ
+max_lines = 2 ^ 20
+
+-- the text of a script
+abbrev pub max_script : ℕ
+max_script = 2 ^ 30
+
+-- the phases of a script
+abbrev pub max_phases : ℕ
+max_phases = 64
+
+-- a log, with its header
+abbrev pub max_log : ℕ
+max_log = 2 ^ 28

@@ -1,6 +1,7 @@
 -- Logs that a script may leave, and where its threads may stop.
-use Rattle.std.specs.Prelude.{◌≡◌, zero, suc, not, nat_le, if◌then◌else◌, MatchBool, ◌⊎◌, ◌<◌, ◌≤◌, ◌^◌, ℕ, ◌+◌, ◌==◌, Bool, true, false, List, [], ◌∷◌, ◌++◌, map, filter, flat_map, take, length, slice_get, Option, Some, None, IsTrue, IsSome}
+use Rattle.std.specs.Prelude.{◌≡◌, zero, suc, not, nat_le, if◌then◌else◌, MatchBool, ◌⊎◌, ◌<◌, ◌≤◌, ℕ, ◌+◌, ◌==◌, Bool, true, false, List, [], ◌∷◌, ◌++◌, map, filter, flat_map, take, length, slice_get, Option, Some, None, IsTrue, IsSome}
 use Rattle.std.specs.List.{list_any, list_all, AllByRecursion}
+use Rattle.gfx_model.specs.Limits.{max_log}
 use Rattle.gfx_model.specs.Events.{Event}
 use Rattle.gfx_model.specs.Spelling.{header, encoding}
 use Rattle.gfx_script_model.specs.Ids.{map_ids, uses_of, defines_of}
@@ -113,10 +114,6 @@ pub record IsCall {m : ℕ} {phases : List (List Part)} {log : List Entry} {q : 
   pub unused : IsTrue (list_all (λ x. not ((view (history log)).used x)) (defines_of m event))
   pub same : event ≡ map_ids ids line.event
 
--- the largest log, in bytes with its header
-abbrev pub log_limit : ℕ
-log_limit = 2 ^ 28
-
 -- the bytes of a log with its header
 abbrev pub log_length : ℕ → List Entry → ℕ
 log_length m log = length (header m) + length (log_bytes m log)
@@ -128,8 +125,8 @@ call_length m t event = length (encoding m t event)
 -- the event under thread t doesn't fit after the log, or it fits and has a fault there
 abbrev pub IsRefused : ℕ → List Entry → ℕ → Event → Type 0
 IsRefused m log t event =
-    (log_limit < log_length m log + call_length m t event)
-    ⊎ ((log_length m log + call_length m t event ≤ log_limit) × IsSome (fault (history log) event))
+    (max_log < log_length m log + call_length m t event)
+    ⊎ ((log_length m log + call_length m t event ≤ max_log) × IsSome (fault (history log) event))
 
 -- thread t is stopped in phase q of a log, after a prefix of it at which its next line was the same
 pub record Stopped (m : ℕ) (phases : List (List Part)) (log : List Entry) (q t : ℕ) (before : List Entry) : Type 0 where
@@ -148,4 +145,4 @@ pub record Stopped (m : ℕ) (phases : List (List Part)) (log : List Entry) (q t
 abbrev pub Safe : ℕ → List (List Part) → Type 0
 Safe m phases = (log : List Entry) (q t : ℕ) (run : Run m false phases log q) (line : Line) (event : Event) →
     is_valid (history log) ≡ true → next_line run t ≡ Some line → IsCall run line event →
-    (fault (history log) event ≡ None) × (log_length m log + call_length m t event ≤ log_limit)
+    (fault (history log) event ≡ None) × (log_length m log + call_length m t event ≤ max_log)

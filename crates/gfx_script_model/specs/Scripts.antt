@@ -1,6 +1,7 @@
 -- The script language: the version, phases, threads and lines of a text, or the first line with a fault.
-use Rattle.std.specs.Prelude.{◌≡◌, ◌^◌, ℕ, ◌+◌, min, ◌==◌, nat_lt, nat_le, Bool, true, false, not, ◌&&◌, ◌||◌, if◌then◌else◌, List, [], ◌∷◌, ◌++◌, map, filter, reverse, length, Option, Some, None, is_some, unwrap_or, codes}
+use Rattle.std.specs.Prelude.{◌≡◌, ℕ, ◌+◌, min, ◌==◌, nat_lt, nat_le, Bool, true, false, not, ◌&&◌, ◌||◌, if◌then◌else◌, List, [], ◌∷◌, ◌++◌, map, filter, reverse, length, Option, Some, None, is_some, unwrap_or, codes}
 use Rattle.std.specs.List.{list_any, list_all, position_from}
+use Rattle.gfx_model.specs.Limits.{max_line, max_lines, max_script, max_phases}
 use Rattle.gfx_model.specs.Events.{Event}
 use Rattle.gfx_model.specs.Checks.{same_list}
 use Rattle.gfx_script_model.specs.Ids.{uses_of, defines_of, map_ids}
@@ -135,8 +136,8 @@ is_phase _ = false
 abbrev pub early_fault : ℕ → ℕ → Reading → List ℕ → Option Kind
 early_fault number through r line =
     if not (list_all is_printable line) then Some bad_byte
-    else (if nat_lt (2 ^ 20) (length line) then Some line_too_long
-    else (if nat_lt (2 ^ 20) number || nat_lt (2 ^ 30) through || is_phase (tokens_of line) && nat_le 64 (length r.phases)
+    else (if nat_lt max_line (length line) then Some line_too_long
+    else (if nat_lt max_lines number || nat_lt max_script through || is_phase (tokens_of line) && nat_le max_phases (length r.phases)
     then Some too_many
     else None))
 

@@ -1,6 +1,7 @@
 -- The law of the section: what is made anew covers what was.
-use Rattle.std.specs.Prelude.{◌≡◌, ◌≤◌, ℕ, ◌^◌, true, List, [], ◌∷◌, ◌++◌, length, None, is_some}
+use Rattle.std.specs.Prelude.{◌≡◌, ◌≤◌, ℕ, true, List, [], ◌∷◌, ◌++◌, length, None, is_some}
 use Rattle.std.specs.List.{AllByRecursion}
+use Rattle.gfx_model.specs.Limits.{max_frame, max_side_blocks, max_payload}
 use Rattle.gfx_model.specs.Events.{Event}
 use Rattle.gfx_model.specs.Events.Event.{CreateInstance, CreateHeadlessSurfaceEXT, CreateDevice, GetDeviceQueue, AllocateMemory, FillMemory, MapMemory, CreateBuffer, BindBufferMemory, CreateImage, BindImageMemory, InitImage, CreateSwapchainKHR, GetSwapchainImagesKHR, SetSwapchainState, CreateFence, CreateSemaphore, SetSemaphoreState, CreateCommandPool, AllocateCommandBuffers, BeginCommandBuffer, EndCommandBuffer, BeginSection, EndSection, CmdPipelineBarrier, CmdFillBuffer, CmdUpdateBuffer, CmdCopyBuffer, CmdCopyImage, CmdCopyBufferToImage, CmdCopyImageToBuffer, CmdClearColorImage}
 use Rattle.gfx_model.specs.Spelling.{HasSpelling, payload}
@@ -20,7 +21,7 @@ pub record IsAtBoundary (h : List Event) : Type 0 where
   pub valid : is_valid h ≡ true
   pub closed : (view h).section ≡ None
   pub low : 1 ≤ (view h).next_frame
-  pub high : (view h).next_frame ≤ 2 ^ 62
+  pub high : (view h).next_frame ≤ max_frame
 
 -- what a section is made of: creations, bindings, maps, recordings and stated bytes, layouts, marks and signals
 abbrev pub IsBuilding : Event → Type 0
@@ -67,8 +68,8 @@ pub record IsSectionFor (m : ℕ) (h : List Event) : Type 0 where
   pub shape : AllByRecursion IsBuilding made
   -- so it shows no frame
   pub silent : frames (section_history h (view h).next_frame) ≡ []
-  pub few : length (section h (view h).next_frame) ≤ 2 ^ 32
-  pub small : AllByRecursion (λ e. length (payload m 0 e) ≤ 2 ^ 27) (section h (view h).next_frame)
+  pub few : length (section h (view h).next_frame) ≤ max_side_blocks
+  pub small : AllByRecursion (λ e. length (payload m 0 e) ≤ max_payload) (section h (view h).next_frame)
 
 -- what holds of objects, images and limits after every valid history
 abbrev pub ValidIsOrderly : Type 0

@@ -1,8 +1,9 @@
 -- What the section needs of a history's answers, beside what is lawful.
-use Rattle.std.specs.Prelude.{◌≡◌, ◌<◌, ◌≤◌, ℕ, ◌+◌, ◌^◌, ◌==◌, Bool, true, false, ◌&&◌, [], ◌∷◌, length, nat_le, Some, None, is_some}
+use Rattle.std.specs.Prelude.{◌≡◌, ◌<◌, ◌≤◌, ℕ, ◌+◌, ◌==◌, Bool, true, false, ◌&&◌, [], ◌∷◌, length, nat_le, Some, None, is_some}
 use Rattle.std.specs.List.{AllByRecursion}
 use Rattle.gfx_types.specs.Names.{format_of}
 use Rattle.gfx_types.specs.declared.names.Kind.TheVariants as kind
+use Rattle.gfx_model.specs.Limits.{max_extent, max_swapchain_images, bind_alignment, max_live_objects, max_live_bytes, max_kept_commands, max_kept_bytes}
 use Rattle.gfx_model.specs.Steps.{Object, Detail}
 use Rattle.gfx_model.specs.Steps.Detail.{an_instance, a_surface, a_device, a_queue, a_memory, a_buffer, an_image, a_pool, a_command_buffer, a_fence, a_semaphore, a_swapchain}
 use Rattle.gfx_model.specs.Questions.{Binding, Range, Buffer, is_kept, passes}
@@ -29,7 +30,7 @@ IsMadeOf v parent (a_memory size) = (is_live v kind.Device parent ≡ true) × (
 IsMadeOf v parent (a_buffer size usage) = (is_live v kind.Device parent ≡ true) × (is_positive size && is_positive usage ≡ true)
 IsMadeOf v parent (an_image format width height usage None) =
     (is_live v kind.Device parent ≡ true) × (is_sound_image format width height usage ≡ true)
-    × (nat_le width 4096 && nat_le height 4096 ≡ true)
+    × (nat_le width max_extent && nat_le height max_extent ≡ true)
 IsMadeOf v parent (an_image format width height usage (Some index)) = HasImage format width height usage index (v.live parent)
 IsMadeOf v parent (a_pool flags) = (is_live v kind.Device parent ≡ true) × (nat_le flags 3 ≡ true)
 IsMadeOf v parent a_command_buffer = is_live v kind.Pool parent ≡ true
@@ -38,7 +39,7 @@ IsMadeOf v parent a_semaphore = is_live v kind.Device parent ≡ true
 IsMadeOf v parent (a_swapchain surface images format width height usage) =
     (is_live v kind.Device parent ≡ true) × (is_live v kind.Surface surface ≡ true)
     × (parent_of v surface ≡ parent_of v parent) × (is_sound_chain images format width height usage ≡ true)
-    × (nat_le images 16 && nat_le width 4096 && nat_le height 4096 ≡ true)
+    × (nat_le images max_swapchain_images && nat_le width max_extent && nat_le height max_extent ≡ true)
 
 -- the mapped range of a memory lies in it
 pub record IsMapped (v : View) (x : ℕ) (r : Range) : Type 0 where
@@ -49,7 +50,7 @@ pub record IsMapped (v : View) (x : ℕ) (r : Range) : Type 0 where
 
 -- a live resource that is bound to live memory lies in it, and both are of one device
 pub record IsBound (v : View) (o : Object) (b : Binding) : Type 0 where
-  pub whole : divides 16 b.offset ≡ true
+  pub whole : divides bind_alignment b.offset ≡ true
   pub near : parent_of v b.memory ≡ o.parent
   pub inside : b.offset + detail_size o.detail ≤ size_of v b.memory
 
@@ -84,7 +85,7 @@ pub record IsOrderly (v : View) : Type 0 where
   pub layouts : (x : ℕ) → is_layout (v.layout x) ≡ true
   pub no_layouts : (x : ℕ) (o : Object) → v.live x ≡ Some o → is_image o.detail ≡ false → v.layout x ≡ 0
   pub buffers : (cb : ℕ) → is_kept (v.buffer cb).state ≡ true → IsKept v cb (v.buffer cb)
-  pub few : length v.ids ≤ 65536
-  pub small : live_bytes v ≤ 2 ^ 28
-  pub commands : commands_kept v ≤ 2 ^ 20
-  pub bytes : bytes_kept v ≤ 2 ^ 28
+  pub few : length v.ids ≤ max_live_objects
+  pub small : live_bytes v ≤ max_live_bytes
+  pub commands : commands_kept v ≤ max_kept_commands
+  pub bytes : bytes_kept v ≤ max_kept_bytes
