@@ -15,53 +15,7 @@ use Rattle.gfx_model.specs.Spelling.{id_of, type_of}
 pub call_type : (c : Call) → type_of (event_of_call c) ≡ 4
 unfolding type_of
 call_type (call.CreateInstance instance api) = refl
-call_type (call.DestroyInstance instance) = refl
-call_type (call.CreateHeadlessSurfaceEXT instance surface) = refl
-call_type (call.DestroySurfaceKHR instance surface) = refl
-call_type (call.CreateDevice instance device) = refl
-call_type (call.DestroyDevice device) = refl
-call_type (call.GetDeviceQueue device queue) = refl
-call_type (call.AllocateMemory device memory size) = refl
-call_type (call.FreeMemory device memory) = refl
-call_type (call.MapMemory device memory offset size) = refl
-call_type (call.UnmapMemory device memory) = refl
-call_type (call.CreateBuffer device buffer size usage) = refl
-call_type (call.DestroyBuffer device buffer) = refl
-call_type (call.BindBufferMemory device buffer memory offset) = refl
-call_type (call.CreateImage device image format width height usage) = refl
-call_type (call.DestroyImage device image) = refl
-call_type (call.BindImageMemory device image memory offset) = refl
-call_type (call.CreateCommandPool device pool flags) = refl
-call_type (call.DestroyCommandPool device pool) = refl
-call_type (call.ResetCommandPool device pool) = refl
-call_type (call.AllocateCommandBuffers device pool buffers) = refl
-call_type (call.FreeCommandBuffers device pool buffers) = refl
-call_type (call.BeginCommandBuffer cb flags) = refl
-call_type (call.EndCommandBuffer cb) = refl
-call_type (call.ResetCommandBuffer cb) = refl
-call_type (call.CmdPipelineBarrier cb barriers) = refl
-call_type (call.CmdFillBuffer cb buffer offset size word) = refl
-call_type (call.CmdUpdateBuffer cb buffer offset bytes) = refl
-call_type (call.CmdCopyBuffer cb source target regions) = refl
-call_type (call.CmdCopyImage cb source source_layout target target_layout regions) = refl
-call_type (call.CmdCopyBufferToImage cb source target layout regions) = refl
-call_type (call.CmdCopyImageToBuffer cb source layout target regions) = refl
-call_type (call.CmdClearColorImage cb image layout c0 c1 c2 c3) = refl
-call_type (call.CreateFence device fence flags) = refl
-call_type (call.DestroyFence device fence) = refl
-call_type (call.ResetFences device fences) = refl
-call_type (call.WaitForFences device fences wait_all answer) = refl
-call_type (call.GetFenceStatus device fence answer) = refl
-call_type (call.CreateSemaphore device semaphore) = refl
-call_type (call.DestroySemaphore device semaphore) = refl
-call_type (call.QueueSubmit queue submits fence) = refl
-call_type (call.QueueWaitIdle queue) = refl
-call_type (call.DeviceWaitIdle device) = refl
-call_type (call.CreateSwapchainKHR device swapchain surface images format width height usage) = refl
-call_type (call.DestroySwapchainKHR device swapchain) = refl
-call_type (call.GetSwapchainImagesKHR device swapchain images) = refl
-call_type (call.AcquireNextImageKHR device swapchain semaphore fence index answer) = refl
-call_type (call.QueuePresentKHR queue waits presents) = refl
+call_type _ = refl
 
 pub meta_type : (m : Meta) → type_of (event_of_meta m) ≡ 3
 unfolding type_of
