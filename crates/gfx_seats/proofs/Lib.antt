@@ -1,0 +1,12 @@
+pub mod Totals
+pub mod Entries
+pub mod Hands
+pub mod Own
+pub mod Draws
+pub mod Tickets
+pub mod Counts
+pub mod Appends
+pub mod Meets
+pub mod Closes
+pub mod Opens
+pub mod SeatLists
