@@ -6,7 +6,7 @@ use Rattle.gfx_types.specs.declared.names.Fault.{Fault}
 use Rattle.gfx_model.specs.Blocks.{clean, bad}
 use Rattle.gfx_model.specs.Events.{Event}
 use Rattle.gfx_trim.specs.Numbers.{IsInside, IsOutside}
-use Rattle.gfx_decode.specs.Meanings.{history_in}
+use Rattle.gfx_player.specs.Meanings.{history_in}
 use Rattle.gfx_words.specs.declared.command.Command.{Command}
 use Rattle.gfx_words.specs.declared.command.Command.TheVariants.{Info, Replay, Trim, Make, Help, Version}
 use Rattle.gfx_cli.specs.declared.stop.Stop.{Stop}

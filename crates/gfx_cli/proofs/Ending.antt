@@ -13,12 +13,10 @@ use Rattle.gfx_decode.specs.declared.fault.DecodeFault.TheVariants as decoder
 use Rattle.gfx_words.specs.declared.range.FrameRange.{FrameRange}
 use Rattle.gfx_words.specs.declared.command.Command.{Command}
 use Rattle.gfx_words.specs.declared.command.Command.TheVariants.{Info, Replay, Trim, Make, Help, Version}
-use Rattle.gfx_play.specs.declared.fault.ShowFault.{ShowFault}
-use Rattle.gfx_play.specs.declared.fault.ShowFault.TheVariants as show
+use Rattle.gfx_player.specs.declared.fault.PlayFault.{PlayFault}
+use Rattle.gfx_player.specs.declared.fault.PlayFault.TheVariants as play
 use Rattle.gfx_play.specs.Screens.{lines_of}
 use Rattle.gfx_play.specs.Shows.{Answers, lines_in, text_in}
-use Rattle.gfx_trim.specs.declared.fault.TrimFault.{TrimFault}
-use Rattle.gfx_trim.specs.declared.fault.TrimFault.TheVariants as fault
 use Rattle.gfx_trim.specs.Trims as trim
 use Rattle.gfx_trim.specs.Written.{written}
 use Rattle.gfx_cli.specs.declared.counts.Counts.{Counts}
@@ -27,7 +25,7 @@ use Rattle.gfx_cli.specs.declared.stop.Stop.TheVariants.{WantMemory, BadFile, No
 use Rattle.gfx_cli.specs.Commands.{IsGood, Leaves, asked_by, text_by, text_before}
 use Rattle.gfx_cli.specs.Counts.{CountsAll}
 use Rattle.gfx_cli.specs.Ends.{Ends, IsDone, Stops}
-use Rattle.gfx_cli.specs.Stop.{of_decoder, of_show, of_trim, IsUnwritten, MissesNone}
+use Rattle.gfx_cli.specs.Stop.{of_decoder, of_play, IsUnwritten, MissesNone}
 use Rattle.gfx_cli.specs.Text.{at_clean, counts_text, info_text, line_feed}
 
 -- ---- `info`
@@ -69,14 +67,14 @@ info_part counts before after all rest told text = subst (AppendsPart before aft
 
 -- ---- `replay`
 
-pub replay_fails : (why : ShowFault) (pixels : Bool) (frames : Option FrameRange) (before after : Option (List ℕ)) (all rest : List ℕ)
-    → Answers (asked_by frames) pixels before after (Err why) all rest → Stops (Replay pixels frames) before after (of_show why) all rest
-replay_fails (show.Bad fault block offset) pixels frames before after all rest is = ((is.end, is.unseen), is.text)
-replay_fails (show.NoSuchFrame first last) pixels frames before after all rest is =
+pub replay_fails : (why : PlayFault) (pixels : Bool) (frames : Option FrameRange) (before after : Option (List ℕ)) (all rest : List ℕ)
+    → Answers (asked_by frames) pixels before after (Err why) all rest → Stops (Replay pixels frames) before after (of_play why) all rest
+replay_fails (play.Bad fault block offset) pixels frames before after all rest is = ((is.end, is.unseen), is.text)
+replay_fails (play.NoSuchFrame first last) pixels frames before after all rest is =
     (record { range = is.range; end = is.end; unseen = is.unseen; first_is = is.first_is; last_is = is.last_is }, is.text)
-replay_fails show.ReadFault pixels frames before after all rest is = record { reads = tt; read = is.given; parts = is.parts; text = is.text; front = is.front }
-replay_fails show.SinkFault pixels frames before after all rest is = is
-replay_fails show.WantMemory pixels frames before after all rest is = is
+replay_fails play.ReadFault pixels frames before after all rest is = record { reads = tt; read = is.given; parts = is.parts; text = is.text; front = is.front }
+replay_fails play.SinkFault pixels frames before after all rest is = is
+replay_fails play.WantMemory pixels frames before after all rest is = is
 
 pub replay_done : (pixels : Bool) (frames : Option FrameRange) (before after : Option (List ℕ)) (all rest : List ℕ)
     → Answers (asked_by frames) pixels before after (Ok tt) all rest → IsDone (Replay pixels frames) before after all rest
@@ -84,13 +82,13 @@ replay_done pixels frames before after all rest is = record { good = is.0.comple
 
 -- ---- `trim`
 
-pub trim_fails : (why : TrimFault) (r : FrameRange) (before after : Option (List ℕ)) (all rest : List ℕ)
-    → trim.Answers r.first r.last before after (Err why) all rest → Stops (Trim r) before after (of_trim why) all rest
-trim_fails (fault.Bad wrong block offset) r before after all rest is = ((is.end, is.outside), is.file)
-trim_fails (fault.NoSuchFrame first last) r before after all rest is = (record { end = is.end; outside = is.outside; first_is = is.low_is; last_is = is.high_is }, is.file)
-trim_fails fault.ReadFault r before after all rest is = record { reads = tt; read = is.given; parts = is.parts; text = is.file; front = is.front }
-trim_fails fault.SinkFault r before after all rest is = is
-trim_fails fault.WantMemory r before after all rest is = is
+pub trim_fails : (why : PlayFault) (r : FrameRange) (before after : Option (List ℕ)) (all rest : List ℕ)
+    → trim.Answers r.first r.last before after (Err why) all rest → Stops (Trim r) before after (of_play why) all rest
+trim_fails (play.Bad wrong block offset) r before after all rest is = ((is.end, is.outside), is.file)
+trim_fails (play.NoSuchFrame first last) r before after all rest is = (record { end = is.end; outside = is.outside; first_is = is.low_is; last_is = is.high_is }, is.file)
+trim_fails play.ReadFault r before after all rest is = record { reads = tt; read = is.given; parts = is.parts; text = is.file; front = is.front }
+trim_fails play.SinkFault r before after all rest is = is
+trim_fails play.WantMemory r before after all rest is = is
 
 pub trim_done : (r : FrameRange) (before after : Option (List ℕ)) (all rest : List ℕ) → trim.Answers r.first r.last before after (Ok tt) all rest → IsDone (Trim r) before after all rest
 trim_done r before after all rest is = record { good = is.inside; leaves = is.behind; text = subst (Appends before after) (sym is.all) is.file }

@@ -6,10 +6,10 @@ use Rattle.gfx_grammar.specs.Splitting.{blocks_of}
 use Rattle.gfx_words.specs.declared.range.FrameRange.{FrameRange}
 use Rattle.gfx_words.specs.declared.command.Command.{Command}
 use Rattle.gfx_words.specs.declared.command.Command.TheVariants.{Info, Replay, Trim, Make, Help, Version}
-use Rattle.gfx_play.specs.declared.asked.Asked.{Asked}
-use Rattle.gfx_play.specs.declared.asked.Asked.TheVariants.{All, Between}
-use Rattle.gfx_play.specs.Asked.{has_last}
-use Rattle.gfx_decode.specs.Meanings.{end_of, history_in, frames_in, first_in, last_in}
+use Rattle.gfx_player.specs.declared.asked.Asked.{Asked}
+use Rattle.gfx_player.specs.declared.asked.Asked.TheVariants.{All, Between}
+use Rattle.gfx_player.specs.Asked.{has_last}
+use Rattle.gfx_player.specs.Meanings.{end_of, history_in, frames_in, first_in, last_in}
 use Rattle.gfx_play.specs.Shows as play
 use Rattle.gfx_trim.specs.Numbers as trim
 use Rattle.gfx_trim.specs.Trims.{IsBehindLast}

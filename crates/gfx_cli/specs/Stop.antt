@@ -2,10 +2,8 @@
 use Rattle.std.specs.Prelude.{ℕ, List, [], ⊤}
 use Rattle.gfx_decode.specs.declared.fault.DecodeFault.{DecodeFault}
 use Rattle.gfx_decode.specs.declared.fault.DecodeFault.TheVariants as decoder
-use Rattle.gfx_play.specs.declared.fault.ShowFault.{ShowFault}
-use Rattle.gfx_play.specs.declared.fault.ShowFault.TheVariants as show
-use Rattle.gfx_trim.specs.declared.fault.TrimFault.{TrimFault}
-use Rattle.gfx_trim.specs.declared.fault.TrimFault.TheVariants as trim
+use Rattle.gfx_player.specs.declared.fault.PlayFault.{PlayFault}
+use Rattle.gfx_player.specs.declared.fault.PlayFault.TheVariants as play
 use Rattle.gfx_trial.specs.declared.fault.TrialFault.{TrialFault}
 use Rattle.gfx_trial.specs.declared.fault.TrialFault.TheVariants as trial
 use Rattle.gfx_cli.specs.declared.status.Status.{Status}
@@ -20,21 +18,13 @@ of_decoder (decoder.Bad fault block offset) = BadFile fault block offset
 of_decoder decoder.ReadFault = ReadFault
 of_decoder decoder.WantMemory = WantMemory
 
--- a fault of showing frames, as a command hands it on
-abbrev pub of_show : ShowFault → Stop
-of_show (show.Bad fault block offset) = BadFile fault block offset
-of_show (show.NoSuchFrame first last) = NoSuchFrame first last
-of_show show.ReadFault = ReadFault
-of_show show.SinkFault = WriteFault
-of_show show.WantMemory = WantMemory
-
--- a fault of trimming, as a command hands it on
-abbrev pub of_trim : TrimFault → Stop
-of_trim (trim.Bad fault block offset) = BadFile fault block offset
-of_trim (trim.NoSuchFrame first last) = NoSuchFrame first last
-of_trim trim.ReadFault = ReadFault
-of_trim trim.SinkFault = WriteFault
-of_trim trim.WantMemory = WantMemory
+-- a fault of a walk through a file, as a command hands it on
+abbrev pub of_play : PlayFault → Stop
+of_play (play.Bad fault block offset) = BadFile fault block offset
+of_play (play.NoSuchFrame first last) = NoSuchFrame first last
+of_play play.ReadFault = ReadFault
+of_play play.SinkFault = WriteFault
+of_play play.WantMemory = WantMemory
 
 -- a fault of a trial, as a command hands it on
 abbrev pub of_trial : TrialFault → Stop

@@ -19,7 +19,8 @@ ghost use Rattle.gfx_words.specs.declared.command.Command.TheVariants.{Info, Rep
 use crate::Stop;
 use crate::info::write_counts;
 use gfx_io::{Sink, Source, write_whole};
-use gfx_play::{Asked, show_frames};
+use gfx_play::show_frames;
+use gfx_player::Asked;
 use gfx_trial::write_trial;
 use gfx_trim::trim;
 use gfx_words::{Command, FrameRange};

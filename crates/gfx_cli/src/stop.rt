@@ -1,13 +1,12 @@
 // Why a command ends before its work is done.
 ghost use Rattle.std.specs.Prelude.{◌≡◌};
 ghost use Rattle.gfx_cli.specs.declared.stop.Stop.TheVariants.{WantMemory as NoMemory, WriteFault as NotWritten};
-ghost use Rattle.gfx_cli.specs.Stop.{of_decoder, of_show, of_trial, of_trim};
+ghost use Rattle.gfx_cli.specs.Stop.{of_decoder, of_play, of_trial};
 
 use gfx_decode::DecodeFault;
 use gfx_io::Failed;
-use gfx_play::ShowFault;
+use gfx_player::PlayFault;
 use gfx_trial::TrialFault;
-use gfx_trim::TrimFault;
 use gfx_types::Fault;
 use std::alloc::AllocError;
 
@@ -48,12 +47,12 @@ impl From<DecodeFault> for Stop {
     }
 }
 
-impl From<ShowFault> for Stop {
-    ghost from_gives = { λ fault stop. stop ≡ of_show fault };
+impl From<PlayFault> for Stop {
+    ghost from_gives = { λ fault stop. stop ≡ of_play fault };
 
-    fn from(fault: ShowFault) -> Self {
+    fn from(fault: PlayFault) -> Self {
         match fault {
-            ShowFault::Bad {
+            PlayFault::Bad {
                 fault,
                 block,
                 offset,
@@ -62,35 +61,10 @@ impl From<ShowFault> for Stop {
                 block,
                 offset,
             },
-            ShowFault::NoSuchFrame { first, last } => Stop::NoSuchFrame { first, last },
-            ShowFault::ReadFault => Stop::ReadFault,
-            ShowFault::SinkFault => Stop::WriteFault,
-            ShowFault::WantMemory => Stop::WantMemory,
-        }
-    }
-}
-
-impl From<TrimFault> for Stop {
-    ghost from_gives = { λ fault stop. stop ≡ of_trim fault };
-
-    fn from(fault: TrimFault) -> Self {
-        match fault {
-            TrimFault::Bad {
-                fault,
-                block,
-                offset,
-            } => Stop::BadFile {
-                fault,
-                block,
-                offset,
-            },
-            TrimFault::NoSuchFrame { first_in, last_in } => Stop::NoSuchFrame {
-                first: first_in,
-                last: last_in,
-            },
-            TrimFault::ReadFault => Stop::ReadFault,
-            TrimFault::SinkFault => Stop::WriteFault,
-            TrimFault::WantMemory => Stop::WantMemory,
+            PlayFault::NoSuchFrame { first, last } => Stop::NoSuchFrame { first, last },
+            PlayFault::ReadFault => Stop::ReadFault,
+            PlayFault::SinkFault => Stop::WriteFault,
+            PlayFault::WantMemory => Stop::WantMemory,
         }
     }
 }

@@ -10,7 +10,7 @@ use Rattle.gfx_model.specs.Blocks.{Position, header_fault, minor_of, option_coun
 use Rattle.gfx_grammar.specs.Framing as framing
 use Rattle.gfx_grammar.specs.Splitting.{blocks_from, blocks_of, only_end}
 use Rattle.gfx_grammar.proofs.FramingLaws.{refuse-true, refuse-false}
-use Rattle.gfx_grammar.proofs.HeaderLaws.{header_fault-short, header_fault-start, header_fault-options, header-of_parts, header_length-append, minor_of-append, option_count-append, blocks_of-header, blocks_of-bad, options_fault-append, start_minor, start_options}
+use Rattle.gfx_grammar.proofs.HeaderLaws.{header_fault-short, header_fault-start, header_fault-options, header-of_parts, header_length-append, minor_of-append, option_count-append, blocks_of-header, blocks_of-bad, options_fault-append, start_fault-append, start_minor, start_options}
 use Rattle.gfx_blocks.specs.declared.header.Header.{Header}
 use Rattle.gfx_io.specs.Told.{IfTold}
 use Rattle.gfx_decode.specs.declared.fault.DecodeFault.{DecodeFault}
@@ -82,7 +82,10 @@ options_stop header start (Some bytes) (Some rest) new (Bad fault block offset) 
 options_stop header start old mid new ReadFault h reads (part, came, short) = (
   start ++ part,
   Consumes-trans old mid new start part reads came,
-  inr (omega (arith, length-append start part, header_length-append start part (omega (arith, h.long)), h.long, h.options, short)),
+  inr (
+    start_fault-append start part (omega (arith, h.long)) ∙ h.good,
+    omega (arith, length-append start part, header_length-append start part (omega (arith, h.long)), h.long, h.options, short),
+  ),
 )
 options_stop header start old mid new WantMemory h reads stops = absurd stops
 

@@ -2,9 +2,6 @@ pub mod Buffer
 pub mod Finding
 pub mod Front
 pub mod Steps
--- ---- for callers: what is told, the place of a decoder, and what the blocks that were read say of the file
+-- ---- for callers: what is told, and the place of a decoder
 pub mod Told
 pub mod Ahead
-pub mod Feeding
-pub mod Stopping
-pub mod Judging

@@ -1,22 +1,55 @@
 -- Why no block came, where its head or its payload is at fault.
-use Rattle.std.proofs.Common.{◌≡◌, ℕ, ◌+◌, ◌<◌, ◌≤◌, inl, inr, List, ◌++◌, length, length-append, Some, None, Option, false, refl, subst, sym, ap, ◌∙◌, arith, append-nil}
+use Rattle.std.proofs.Common.{◌≡◌, ℕ, ◌+◌, ◌^◌, ◌<◌, ◌≤◌, ◌&&◌, not, nat_le, inl, inr, List, ◌++◌, length, length-append, Some, None, Option, Bool, true, false, refl, subst, sym, ap, ◌∙◌, arith, append-nil}
 use Rattle.std.specs.Io.KnownBytes.{Consumes, IsAtEnd}
 use Rattle.std.proofs.KnownBytes.{Consumes-trans}
 use Rattle.std.specs.Prelude.{IfSome}
 use Rattle.gfx_types.specs.declared.names.Fault.{Fault}
-use Rattle.gfx_types.specs.declared.names.Fault.TheVariants.{Truncated}
-use Rattle.gfx_model.specs.Blocks.{Position}
-use Rattle.gfx_grammar.specs.Framing.{IsHead, count_fault}
-use Rattle.gfx_grammar.specs.Splitting.{breaks, front}
-use Rattle.gfx_grammar.proofs.FrontLaws.{front-short, front-cut, front-cut-count_fault, whole-front}
+use Rattle.gfx_types.specs.declared.names.Fault.TheVariants.{Truncated, TooManyBlocks}
+use Rattle.gfx_model.specs.Blocks.{Position, Whole}
+use Rattle.gfx_grammar.specs.Framing.{IsHead, count_fault, marks, side}
+use Rattle.gfx_grammar.specs.Splitting.{Finds, breaks, front}
+use Rattle.gfx_grammar.proofs.FramingLaws.{head_fault-append, refuse-true, size_field-append}
+use Rattle.gfx_grammar.proofs.FrontLaws.{front-count_fault, front-short, front-cut, front-cut-count_fault, whole-front}
 use Rattle.gfx_decode.specs.declared.fault.DecodeFault.{DecodeFault}
 use Rattle.gfx_decode.specs.declared.fault.DecodeFault.TheVariants.{Bad, ReadFault, WantMemory}
-use Rattle.gfx_decode.specs.Reading.{HasNoBlock, IsCutFault, StopsAt, StopsInBytes, StopsInPayload, StopsShort}
+use Rattle.gfx_decode.specs.Reading.{HasRoom, IsBlockCut, IsCutFault, IsPayloadCut, StopsAt, StopsInBytes, StopsInPayload, StopsShort}
+use Rattle.gfx_decode.proofs.Finding.{not_full}
 
--- fewer than twelve bytes are no block
-pub short-no_block : (m : ℕ) (at : Position) (bytes : List ℕ) → length bytes < 12 → HasNoBlock m at bytes
-short-no_block m at bytes short w is =
-    let whole = whole-front m at bytes w is in omega (arith, whole.there)
+-- no block is found where it isn't whole
+pub cut_finds_none : (m : ℕ) (at : Position) (bytes : List ℕ) (w : Whole) → IsBlockCut at bytes → front m at bytes ≡ Finds w → ⊥
+cut_finds_none m at bytes w (inl short) is = let whole = whole-front m at bytes w is in omega (arith, short, whole.there)
+cut_finds_none m at bytes w (inr cut) is = let whole = whole-front m at bytes w is in omega (arith, cut.short, whole.payload_there)
+
+-- a head in order, with fewer bytes behind it than it says
+payload_cut : (at : Position) (kind size : ℕ) (head part : List ℕ) → IsHead kind size head → HasRoom at → length part < size → IsPayloadCut at (head ++ part)
+payload_cut at kind size head part h room short = record {
+  head = head_fault-append head part (omega (arith, h.there)) ∙ h.good;
+  room = room;
+  short = omega (arith, length-append head part, h.there, short, size_field-append head part (omega (arith, h.there)), h.size_is);
+}
+
+-- a block without room on either side of the section, whatever follows its head
+pub no_room : (m : ℕ) (at : Position) (kind size : ℕ) (head rest : List ℕ) → IsHead kind size head → not (nat_le (2 ^ 32) (side at false) && nat_le (2 ^ 32) (side at true)) ≡ false
+    → front m at (head ++ rest) ≡ breaks at TooManyBlocks
+no_room m at kind size head rest h none = front-count_fault m at kind size head rest TooManyBlocks h (by (marks 1 kind size rest))
+  where
+    both : (a b : Bool) → not (a && b) ≡ false → (a ≡ true) × (b ≡ true)
+    both true true none = (refl, refl)
+    both true false none = absurd cc
+    both false b none = absurd cc
+
+    by : (begins : Bool) → count_fault at begins ≡ Some TooManyBlocks
+    by false = refuse-true (nat_le (2 ^ 32) (side at false)) TooManyBlocks None (both _ _ none).0
+    by true = refuse-true (nat_le (2 ^ 32) (side at true)) TooManyBlocks None (both _ _ none).1
+
+-- room on one of them
+pub some_room : (at : Position) → not (nat_le (2 ^ 32) (side at false) && nat_le (2 ^ 32) (side at true)) ≡ true → HasRoom at
+some_room at is = by (nat_le (2 ^ 32) (side at false)) (nat_le (2 ^ 32) (side at true)) refl refl is
+  where
+    by : (a b : Bool) → nat_le (2 ^ 32) (side at false) ≡ a → nat_le (2 ^ 32) (side at true) ≡ b → not (a && b) ≡ true → HasRoom at
+    by false b outside inside some = inl (not_full (side at false) outside)
+    by true false outside inside some = inr (not_full (side at true) inside)
+    by true true outside inside some = absurd cc
 
 -- the input ends in a block's head
 pub stops_short : (m : ℕ) (at : Position) (old new : Option (List ℕ)) (got : List ℕ) → Consumes old new got → IsAtEnd new → 0 < length got → length got < 12
@@ -42,26 +75,20 @@ cut_breaks m at kind size head rest fault h short (inl full) = front-cut-count_f
 cut_breaks m at kind size head rest fault h short (inr (room, is)) =
     subst (λ f. front m at (head ++ rest) ≡ breaks at f) (sym is) (front-cut m at kind size head rest h short room)
 
--- no whole block stands where one was cut short
-cut_no_block : (m : ℕ) (at : Position) (kind size : ℕ) (head part : List ℕ) → IsHead kind size head → length part < size
-    → (o : Option Fault) → count_fault at false ≡ o → HasNoBlock m at (head ++ part)
-cut_no_block m at kind size head part h short (Some fault) is w found = cc (cut_breaks m at kind size head part fault h short (inl is), found)
-cut_no_block m at kind size head part h short None is w found = cc (front-cut m at kind size head part h short is, found)
-
 -- a fault in the payload is one of the block
 pub stops_in_payload : (m : ℕ) (at : Position) (kind size : ℕ) (old mid new : Option (List ℕ)) (head : List ℕ) (why : DecodeFault)
-    → IsHead kind size head → Consumes old mid head → StopsInPayload size at mid new why → StopsAt m at old new why
-stops_in_payload m at kind size None mid new head (Bad fault block offset) h reads stops = (stops.0, stops.1, tt)
-stops_in_payload m at kind size (Some bytes) None new head (Bad fault block offset) h reads stops = absurd reads
-stops_in_payload m at kind size (Some bytes) (Some rest) new head (Bad fault block offset) h reads stops = (
+    → IsHead kind size head → HasRoom at → Consumes old mid head → StopsInPayload size at mid new why → StopsAt m at old new why
+stops_in_payload m at kind size None mid new head (Bad fault block offset) h room reads stops = (stops.0, stops.1, tt)
+stops_in_payload m at kind size (Some bytes) None new head (Bad fault block offset) h room reads stops = absurd reads
+stops_in_payload m at kind size (Some bytes) (Some rest) new head (Bad fault block offset) h room reads stops = (
   stops.0,
   stops.1,
   subst (λ (xs : List ℕ). front m at xs ≡ breaks at fault) (sym reads) (cut_breaks m at kind size head rest fault h stops.3 stops.2),
 )
-stops_in_payload m at kind size old mid new head ReadFault h reads stops =
+stops_in_payload m at kind size old mid new head ReadFault h room reads stops =
     let (part, came, short) = stops in
-    (head ++ part, Consumes-trans old mid new head part reads came, cut_no_block m at kind size head part h short (count_fault at false) refl)
-stops_in_payload m at kind size old mid new head WantMemory h reads stops = tt
+    (head ++ part, Consumes-trans old mid new head part reads came, inr (payload_cut at kind size head part h room short))
+stops_in_payload m at kind size old mid new head WantMemory h room reads stops = tt
 
 -- a fault in the bytes that were read is one of the block
 pub stops_in_bytes : (m : ℕ) (at : Position) (old new : Option (List ℕ)) (buffer held : List ℕ) (why : DecodeFault)

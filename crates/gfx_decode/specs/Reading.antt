@@ -1,12 +1,13 @@
 -- What the reads of one block leave, where what the source has left is told.
-use Rattle.std.specs.Prelude.{◌≡◌, ◌≢◌, ◌⊎◌, ℕ, ◌*◌, ◌<◌, nat_lt, false, List, ◌++◌, length, IfSome, None, Some}
+use Rattle.std.specs.Prelude.{◌≡◌, ◌⊎◌, ℕ, ◌+◌, ◌*◌, ◌<◌, nat_lt, true, false, List, ◌++◌, length, IfSome, None, Some}
 use Rattle.std.specs.declared.option.Option.{Option}
 use Rattle.std.specs.Io.KnownBytes.{Consumes}
 use Rattle.gfx_types.specs.declared.names.Fault.{Fault}
 use Rattle.gfx_types.specs.declared.names.Fault.TheVariants.{Truncated}
-use Rattle.gfx_model.specs.Blocks.{Position, Whole, header_fault, header_length, minor_of, option_count, options_fault, refuse}
+use Rattle.gfx_model.specs.Blocks.{Position, header_fault, header_length, minor_of, option_count, options_fault, refuse, size_field}
+use Rattle.gfx_model.specs.Limits.{max_side_blocks}
 use Rattle.gfx_grammar.specs.Framing as framing
-use Rattle.gfx_grammar.specs.Splitting.{Finds, breaks, front}
+use Rattle.gfx_grammar.specs.Splitting.{breaks, front}
 use Rattle.gfx_blocks.specs.declared.header.Header.{Header}
 use Rattle.gfx_decode.specs.declared.fault.DecodeFault.{DecodeFault}
 use Rattle.gfx_decode.specs.declared.fault.DecodeFault.TheVariants.{Bad, ReadFault, WantMemory}
@@ -15,13 +16,23 @@ use Rattle.gfx_decode.specs.declared.fault.DecodeFault.TheVariants.{Bad, ReadFau
 abbrev pub ReadsSome : Option (List ℕ) → Option (List ℕ) → Type 0
 ReadsSome old new = (bytes : List ℕ) × Consumes old new bytes
 
--- the header isn't whole
+-- the header isn't whole, and what there is of it breaks no step: fewer than 16 bytes, or a start in order and fewer bytes than its options take
 abbrev pub IsHeaderCut : List ℕ → Type 0
-IsHeaderCut bytes = (length bytes < 16) ⊎ (length bytes < header_length bytes)
+IsHeaderCut bytes = (length bytes < 16) ⊎ ((framing.start_fault bytes ≡ None) × (length bytes < header_length bytes))
 
--- no whole block stands at the front
-abbrev pub HasNoBlock : ℕ → Position → List ℕ → Type 0
-HasNoBlock m at bytes = (w : Whole) → front m at bytes ≢ Finds w
+-- a block has room here, whether it begins the state section or not
+abbrev pub HasRoom : Position → Type 0
+HasRoom at = (framing.side at false < max_side_blocks) ⊎ (framing.side at true < max_side_blocks)
+
+-- a head in order, a block for which there is room, and fewer bytes than it says
+pub record IsPayloadCut (at : Position) (bytes : List ℕ) : Type 0 where
+  pub head : framing.head_fault bytes ≡ None
+  pub room : HasRoom at
+  pub short : length bytes < 12 + size_field bytes
+
+-- the block here isn't whole, and what there is of it breaks no step: fewer than 12 bytes, or fewer than its size says
+abbrev pub IsBlockCut : Position → List ℕ → Type 0
+IsBlockCut at bytes = (length bytes < 12) ⊎ IsPayloadCut at bytes
 
 -- why no header came: it breaks a step, or it isn't whole in the bytes that were read
 abbrev pub StopsInHeader : Option (List ℕ) → Option (List ℕ) → DecodeFault → Type 0
@@ -42,7 +53,7 @@ abbrev pub StopsAt : ℕ → Position → Option (List ℕ) → Option (List ℕ
 StopsAt m at old new (Bad fault block offset) =
     (block ≡ at.number) × (offset ≡ at.offset) × IfSome old (λ bytes. front m at bytes ≡ breaks at fault)
 -- it isn't whole in the bytes that were read
-StopsAt m at old new ReadFault = (bytes : List ℕ) × Consumes old new bytes × HasNoBlock m at bytes
+StopsAt m at old new ReadFault = (bytes : List ℕ) × Consumes old new bytes × IsBlockCut at bytes
 StopsAt m at old new WantMemory = Unit {0}
 
 -- the first step that a block with a payload that is cut short breaks: it counts outside the section that it may begin

@@ -1,5 +1,5 @@
 // How a decoder's position follows the blocks.
-ghost use Rattle.std.specs.Prelude.{◌≡◌, ◌+◌, ◌*◌, ◌^◌, ◌≤◌, ◌<◌, nat_le};
+ghost use Rattle.std.specs.Prelude.{◌≡◌, ◌+◌, ◌*◌, ◌^◌, ◌≤◌, ◌<◌, ◌&&◌, not, true, false, nat_le};
 ghost use Rattle.gfx_grammar.specs.Framing.{past, side};
 ghost use Rattle.gfx_decode.specs.Decoding.{start_of};
 ghost use Rattle.gfx_decode.specs.Position.{position_of};
@@ -35,6 +35,13 @@ pub fn is_full(at: Position, begins: bool) -> bool
         at.outside
     };
     MOST_BLOCKS <= count
+}
+
+/// Whether a block has room here, which may begin the state section or not.
+pub fn has_room(at: Position) -> bool
+    ensures { result ≡ not (nat_le (2 ^ 32) (side (position_of at) false) && nat_le (2 ^ 32) (side (position_of at) true)) }
+{
+    !(is_full(at, false) && is_full(at, true))
 }
 
 /// Where the next block stands, behind one with a payload of so many bytes.

@@ -8,7 +8,7 @@ ghost use Rattle.gfx_decode.specs.Position.{position_of};
 ghost use Rattle.gfx_decode.specs.Reading.{IsCutFault, IsFramed, IsHeader, ReadsSome, StopsAt, StopsInHeader, StopsInOptions, StopsInPayload, StopsShort};
 
 use crate::DecodeFault;
-use crate::places::is_full;
+use crate::places::{has_room, is_full};
 use crate::position::Position;
 use gfx_blocks::{Framing, Header, read_frame, read_start};
 use gfx_io::{Source, fill};
@@ -149,7 +149,7 @@ fn read_piece<S: Source>(
     Ok(count)
 }
 
-/// Reads the next block into the buffer, all but its count and its payload checked, or finds the end of the input.
+/// Reads the next block into the buffer, all but what its payload decides checked, or finds the end of the input.
 pub fn fetch<S: Source>(
     source: &mut S,
     at: Position,
@@ -164,11 +164,12 @@ pub fn fetch<S: Source>(
     ensures cause { result ≡ Err DecodeFault.ReadFault → Rose (S.faults source.old) (S.faults source.new) }
 {
     let mut head = [0; 12];
-    match read_head(source, at, &mut head)? {
-        Some(framing) => {
-            read_rest(source, at, framing, &head, buffer)?;
-            Ok(Some(framing))
-        }
-        None => Ok(None),
+    let Some(framing) = read_head(source, at, &mut head)? else {
+        return Ok(None);
+    };
+    if !has_room(at) {
+        return Err(DecodeFault::bad(Fault::TooManyBlocks, at.number, at.offset));
     }
+    read_rest(source, at, framing, &head, buffer)?;
+    Ok(Some(framing))
 }

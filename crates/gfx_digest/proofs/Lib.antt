@@ -1,3 +1,2 @@
 pub mod Pieces
-pub mod Taking
-pub mod Reading
+pub mod Hashing

@@ -1,19 +1,12 @@
 //! The digest of a range of frames, as their file is read.
-ghost use Rattle.std.specs.Prelude.{◌≡◌, ◌≤◌, ◌<◌, ℕ, List, Err, length};
-ghost use Rattle.std.specs.declared.option.Option.{Option as Maybe};
+ghost use Rattle.std.specs.Prelude.{◌≡◌, ◌≢◌, ◌≤◌, ◌<◌, Err, length};
 ghost use Rattle.gfx_io.specs.Causes.{Rose};
 ghost use Rattle.gfx_io.specs.Told.{IfTold};
-ghost use Rattle.gfx_model.specs.Events.{Event};
-ghost use Rattle.gfx_decode.specs.Reachable.{IsBehind};
-ghost use Rattle.gfx_digest.specs.Digests.{Digests};
-ghost use Rattle.gfx_digest.specs.Hashers.{IsAfter};
-ghost use Rattle.gfx_digest.specs.Reads.{HasRead};
+ghost use Rattle.gfx_digest.specs.Digests.{Digests, DigestsAsked};
 
-use crate::fault::DigestFault;
 use crate::hasher::FrameHasher;
-use crate::range::FrameRange;
-use gfx_decode::Decoder;
 use gfx_io::Source;
+use gfx_player::{Asked, PlayFault, Player};
 use std::alloc::Global;
 
 /// The digest of frames, and how many they are.
@@ -28,66 +21,43 @@ const PIECE: usize = 65536;
 
 /// The SHA-256 of the bytes of all images of the frames from `first` to `last`, one after another, and the number of
 /// these frames. Reading ends behind the last of them. A range that is not in the file is told where the file ends, and
-/// a bad block or a failed read where it is met.
+/// a bad block or a failed read where it is met. Nothing is written, and no write fails.
 pub fn digest_frames<S: Source>(
     alloc: Global,
     first: u64,
     last: u64,
     source: &mut S,
-) -> Result<Digested, DigestFault>
+) -> Result<Digested, PlayFault>
     ensures told { IfTold (S.left source.old) (S.left source.new) (Digests first last result) }
-    ensures read_fault { result ≡ Err DigestFault.ReadFault → Rose (S.faults source.old) (S.faults source.new) }
+    ensures read_fault { result ≡ Err PlayFault.ReadFault → Rose (S.faults source.old) (S.faults source.new) }
+    ensures unwritten { result ≢ Err PlayFault.SinkFault }
     ensures later { S.faults source.old ≤ S.faults source.new }
 {
-    let mut buffer = vec![in alloc; 0; PIECE]?;
-    digest_range(
-        alloc,
-        FrameRange { first, last },
-        buffer.as_mut_slice(),
-        source,
-    )
+    let mut piece = vec![in alloc; 0; PIECE]?;
+    let asked = Asked::Between { first, last };
+    digest_asked(alloc, asked, piece.as_mut_slice(), source)
 }
 
-/// Hashes the frames of a range of a whole file.
-fn digest_range<S: Source>(
+/// Hashes the frames of a file that are asked for.
+fn digest_asked<S: Source>(
     alloc: Global,
-    range: FrameRange,
-    buffer: &mut [u8],
+    asked: Asked,
+    piece: &mut [u8],
     source: &mut S,
-) -> Result<Digested, DigestFault>
-    requires space { 0 < length buffer.old }
-    ensures told { IfTold (S.left source.old) (S.left source.new) (Digests range.first range.last result) }
-    ensures read_fault { result ≡ Err DigestFault.ReadFault → Rose (S.faults source.old) (S.faults source.new) }
+) -> Result<Digested, PlayFault>
+    requires space { 0 < length piece.old }
+    ensures told { IfTold (S.left source.old) (S.left source.new) (DigestsAsked asked result) }
+    ensures read_fault { result ≡ Err PlayFault.ReadFault → Rose (S.faults source.old) (S.faults source.new) }
+    ensures unwritten { result ≢ Err PlayFault.SinkFault }
     ensures later { S.faults source.old ≤ S.faults source.new }
 {
-    let mut decoder = Decoder::new(alloc);
-    decoder.header(source)?;
-    let mut hasher = FrameHasher::new(alloc, range);
-    digest_blocks(alloc, &mut hasher, &mut decoder, buffer, source)
-}
-
-/// Hashes the frames of the blocks that are left.
-fn digest_blocks<S: Source>(
-    alloc: Global,
-    hasher: &mut FrameHasher,
-    decoder: &mut Decoder,
-    buffer: &mut [u8],
-    source: &mut S,
-) -> Result<Digested, DigestFault>
-    requires space { 0 < length buffer.old }
-    requires place { IsBehind hasher.old.count decoder.old }
-    requires after { (h : List Event) × IsAfter hasher.old h }
-    ensures told { (first : ℕ) → (last : ℕ) → (file : Maybe (List ℕ))
-        → IfTold file (S.left source.old) (λ all left. HasRead first last all decoder.old hasher.old left)
-        → IfTold file (S.left source.new) (Digests first last result) }
-    ensures read_fault { result ≡ Err DigestFault.ReadFault → Rose (S.faults source.old) (S.faults source.new) }
-    ensures later { S.faults source.old ≤ S.faults source.new }
-{
-    let mut payload = Vec::new(alloc);
-    while let Some(raw) = decoder.next(source, &mut payload)? {
-        if hasher.take_raw(raw, buffer)? {
+    let mut player = Player::open(alloc, source)?;
+    let mut hasher = FrameHasher::new(asked);
+    let mut buffer = Vec::new(alloc);
+    'frames: while let Some(frame) = player.next_frame(source, &mut buffer)? {
+        if hasher.take(&frame, &player, piece) {
             return Ok(hasher.finish());
         }
     }
-    Err(hasher.missing())
+    Err(player.no_such_frame())
 }

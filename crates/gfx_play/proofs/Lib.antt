@@ -1,5 +1,2 @@
-pub mod Asking
-pub mod Taking
-pub mod Later
-pub mod Playing
+pub mod Lines
 pub mod Showing

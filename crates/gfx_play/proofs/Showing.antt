@@ -1,156 +1,205 @@
--- How showing ends, by what the decoder, the screen and the sink answer.
-use Rattle.std.proofs.Common.{◌≡◌, ◌-◌, ℕ, Bool, true, List, [], ◌∷◌, ◌++◌, codes, Option, None, Result, Ok, Err, refl, sym, ap, subst, ◌∙◌}
-use Rattle.std.specs.Prelude.{OnOk, IfErr, unwrap_or}
+-- Frames that are shown one after another, and how showing ends.
+use Rattle.std.proofs.Common.{◌≡◌, ◌+◌, ◌-◌, inr, codes, ℕ, Bool, true, false, if◌then◌else◌, List, [], ◌∷◌, ◌++◌, length, Option, None, Result, Ok, Err, refl, sym, ap, subst, ◌∙◌}
+use Rattle.std.specs.Prelude.{OnOk, IfErr}
 use Rattle.std.specs.Io.KnownBytes.{Appends}
 use Rattle.gfx_io.specs.Pieces.{AppendsPart}
 use Rattle.gfx_io.specs.Told.{IfTold}
-use Rattle.gfx_types.specs.declared.names.Fault.{Fault}
-use Rattle.gfx_model.specs.Blocks.{Position, Whole, minor_of}
-use Rattle.gfx_model.specs.History.{is_valid}
-use Rattle.gfx_model.specs.Frames.{frames}
-use Rattle.gfx_model.specs.Meaning.{Judged, judge, content_fault}
+use Rattle.gfx_types.specs.declared.frame.Frame.{Frame}
+use Rattle.gfx_model.specs.Blocks.{minor_of}
 use Rattle.gfx_model.specs.Text.{count_line}
-use Rattle.gfx_grammar.proofs.HeaderLaws.{minor_of-append}
-use Rattle.gfx_grammar.specs.Splitting.{Blocks}
-use Rattle.gfx_trim_law.proofs.Cuts.{onto_parts}
-use Rattle.gfx_decode.specs.Stage.{Stage, At}
-use Rattle.gfx_decode.specs.Decoding.{Gives, GivesHeader, IsBlockAt, behind, item_of}
-use Rattle.gfx_decode.specs.declared.decoder.Raw.{Raw}
-use Rattle.gfx_decode.specs.declared.fault.DecodeFault.{DecodeFault}
-use Rattle.gfx_decode.specs.declared.fault.DecodeFault.TheVariants as decoder
-use Rattle.gfx_frames.specs.declared.lines.PrintFault.{PrintFault}
-use Rattle.gfx_frames.specs.declared.lines.PrintFault.TheVariants as printer
-use Rattle.gfx_io.proofs.Appending.{appends_none, nothing_written, part_then}
-use Rattle.gfx_play.specs.declared.asked.Asked.{Asked}
-use Rattle.gfx_play.specs.declared.asked.Asked.TheVariants as asked
+use Rattle.gfx_io.proofs.Appending.{appends_none, appends_then, part_then, whole_part}
+use Rattle.gfx_replay.specs.Replayer.{bytes_of}
+use Rattle.gfx_replay.specs.Shown.{frame_of}
+use Rattle.gfx_replay.specs.declared.shown.ShownFrame.{ShownFrame}
+use Rattle.gfx_decode.proofs.Told.{told_if}
+use Rattle.gfx_player.specs.declared.asked.Asked.{Asked}
+use Rattle.gfx_player.specs.declared.asked.Asked.TheVariants as asked
+use Rattle.gfx_player.specs.declared.fault.PlayFault.{PlayFault}
+use Rattle.gfx_player.specs.declared.fault.PlayFault.TheVariants as play
+use Rattle.gfx_player.specs.declared.player.Player.{Player}
+use Rattle.gfx_player.specs.Asked.{asked_of, has_last, is_asked, is_last}
+use Rattle.gfx_player.specs.Ends.{IsBehindFrame, IsStopped, ShowsFirst}
+use Rattle.gfx_player.specs.Faults.{IsUnwritten}
+use Rattle.gfx_player.specs.Meanings.{frames_in}
+use Rattle.gfx_player.specs.Walks.{HasAll, Plays, ShowsNext, first_frame_of, next_frame_of}
+use Rattle.gfx_player.proofs.Asking.{behind_last, count_more, first_with, last_more, one_if}
+use Rattle.gfx_player.proofs.Later.{LastShown, last_shown, never_last}
+use Rattle.gfx_player.proofs.Playing.{first_is, highest_is, lowest_is, plays_first, told_beside}
 use Rattle.gfx_play.specs.declared.screen.Screen.{Screen}
-use Rattle.gfx_play.specs.declared.fault.ShowFault.{ShowFault}
-use Rattle.gfx_play.specs.declared.fault.ShowFault.TheVariants as show
-use Rattle.gfx_play.specs.Asked.{asked_of, has_last}
-use Rattle.gfx_play.specs.Faults.{of_decoder, of_printer}
-use Rattle.gfx_decode.specs.Meanings.{frames_in, judged_of}
-use Rattle.gfx_play.specs.Screens.{EndsOnly, Refuses, lines_of, lines_by, next_frame_of}
-use Rattle.gfx_decode.specs.Fed.{ComesNext, IsGiven, history_of}
-use Rattle.gfx_decode.specs.Reachable.{IsBehind}
-use Rattle.gfx_decode.specs.Reading.{StopsAt, StopsInHeader}
-use Rattle.gfx_play.specs.Played.{Played}
-use Rattle.gfx_play.specs.Shows.{Answers, IsBadAt, IsCut, IsRange, IsShown, IsWithout, Leaves, text_in}
-use Rattle.gfx_decode.proofs.Feeding.{block_comes, fed_more}
-use Rattle.gfx_decode.proofs.Judging.{judged_given}
-use Rattle.gfx_trim_law.proofs.Prefix.{valid_more}
-use Rattle.gfx_decode.proofs.Stopping.{GivesNone, header_stops, stops_behind_blocks, told_stop}
-use Rattle.gfx_decode.proofs.Told.{told_if, told_through}
-use Rattle.gfx_play.proofs.Playing.{played_bad, played_front, played_rule, bad_so, played_all, played_without, end_front, front_of, lines_then}
+use Rattle.gfx_play.specs.Screens.{lines_of, text_by}
+use Rattle.gfx_play.specs.Shows.{Answers, EndsOnly, IsRange, IsShown, IsWithout, Leaves, text_in}
+use Rattle.gfx_play.proofs.Lines.{lines_front, lines_in_version, lines_none, lines_then, listing_of, text_part, text_whole}
 
--- ---- a read that failed
+-- these frames were shown and what is asked for of them was written; the last that is asked for is among them or isn't
+pub record Showing (a : Asked) (pixels : Bool) (p : Player) (s : Screen) (shown : List Frame) (seen : Bool) (file left before after : Option (List ℕ)) : Type 0 where
+  pub plays : Plays p shown file left
+  pub asked : s.asked ≡ a
+  pub listing : s.listing ≡ listing_of p.minor pixels
+  pub count : s.count ≡ length (asked_of a shown)
+  pub last : has_last a shown ≡ seen
+  pub text : Appends before after (lines_of (listing_of p.minor pixels) (asked_of a shown))
 
--- before the header was whole
-cut_header : (a : Asked) (pixels : Bool) (taken : Option (List ℕ)) (all left : List ℕ) → IsGiven [] all left → IsCut a pixels taken taken all left
-unfolding frames lines_of
-cut_header a pixels taken all left g =
-    let judged = judged_given [] all left g refl in
-    let shows : frames_in g.given ≡ [] = ap (λ (j : Judged). frames j.history) judged in
+-- ---- one frame more
+
+pub shown_none : (a : Asked) (pixels : Bool) (p : Player) (s : Screen) (file left taken : Option (List ℕ)) → Plays p [] file left → s.asked ≡ a → s.listing ≡ listing_of p.minor pixels → s.count ≡ 0 →
+    Showing a pixels p s [] false file left taken taken
+shown_none a pixels p s file left taken plays asked listing count = record {
+  plays = plays;
+  asked = asked;
+  listing = listing;
+  count = count;
+  last = refl;
+  text = subst (Appends taken taken) (sym (lines_none (listing_of p.minor pixels))) (appends_none taken);
+}
+
+-- what a screen does with a frame
+pub record Counts (old new : Screen) (p : Player) (f : ShownFrame) (answer : Bool) : Type 0 where
+  pub asked : new.asked ≡ old.asked
+  pub listing : new.listing ≡ old.listing
+  pub count : new.count ≡ old.count + one_if (is_asked old.asked (first_frame_of p) f.number)
+  pub last : answer ≡ is_last old.asked (first_frame_of p) f.number
+
+pub shown_more : (a : Asked) (pixels : Bool) (was p : Player) (old new : Screen) (shown : List Frame) (f : ShownFrame) (last : Bool) (file left rest before middle after : Option (List ℕ)) →
+    Showing a pixels was old shown false file left before middle → ShowsNext p shown f file rest → p.minor ≡ was.minor → Counts old new p f last → Appends middle after (text_by old p f) →
+    Showing a pixels p new (shown ++ frame_of (bytes_of p.replayer) f ∷ []) last file rest before after
+shown_more a pixels was p old new shown f last file left rest before middle after s next minor c wrote =
+    let g = frame_of (bytes_of p.replayer) f in
+    let first = first_is p shown g file rest next.plays in
+    let listed = s.listing ∙ ap (λ m. listing_of m pixels) (sym minor) in
     record {
-      given = g.given;
-      parts = g.parts;
-      lawful = ap (λ (j : Judged). j.end) judged ∙ sym (ap (λ (b : Blocks). b.end) g.blocks);
-      unseen = ap (has_last a) shows;
-      text = subst (λ fs. Appends taken taken (lines_of (record { minor = minor_of g.given; pixels = pixels }) (asked_of a fs))) (sym shows) (appends_none taken);
-      front = nothing_written taken (text_in a pixels all);
+      plays = next.plays;
+      asked = c.asked ∙ s.asked;
+      listing = c.listing ∙ listed;
+      count = c.count ∙ ap (λ n. n + one_if (is_asked old.asked (first_frame_of p) f.number)) s.count
+          ∙ ap (λ a'. length (asked_of a shown) + one_if (is_asked a' (first_frame_of p) f.number)) s.asked
+          ∙ ap (λ n. length (asked_of a shown) + one_if (is_asked a n f.number)) first
+          ∙ count_more a shown g;
+      last = last_more a shown g s.last ∙ sym (c.last ∙ ap (λ a. is_last a (first_frame_of p) f.number) s.asked ∙ ap (λ n. is_last a n f.number) first);
+      text = subst (Appends before after) (lines_then a old (listing_of p.minor pixels) p shown f file rest next.plays s.asked listed)
+          (appends_then before middle after _ _ (subst (λ m. Appends before middle (lines_of (listing_of m pixels) (asked_of a shown))) (sym minor) s.text) wrote);
     }
 
--- behind some blocks
-cut_behind : (a : Asked) (pixels : Bool) (all : List ℕ) (stage : Stage) (screen : Screen) (left rest : List ℕ) (before after : Option (List ℕ)) →
-    Played a pixels all stage screen left before after → GivesNone stage left rest → IsCut a pixels before after all rest
-cut_behind a pixels all stage screen left rest before after p none =
-    let (g, long) = stops_behind_blocks p.fed stage all left rest p.fits none in
-    let judged = judged_given p.fed all rest g (p.stands).replays.stands.valid in
-    let shows : frames_in g.given ≡ frames (history_of p.fed) = ap (λ (j : Judged). frames j.history) judged in
-    let minor : minor_of all ≡ minor_of g.given = ap minor_of g.parts ∙ minor_of-append g.given rest long in
+-- ---- a frame that isn't written whole
+
+write_fails : (a : Asked) (pixels : Bool) (why : PlayFault) (before after : Option (List ℕ)) (all rest : List ℕ) → IsUnwritten why → AppendsPart before after (text_in a pixels all) →
+    Answers a pixels before after (Err why) all rest
+write_fails a pixels (play.Bad fault block offset) before after all rest is part = absurd is
+write_fails a pixels (play.NoSuchFrame first last) before after all rest is part = absurd is
+write_fails a pixels play.ReadFault before after all rest is part = absurd is
+write_fails a pixels play.SinkFault before after all rest is part = part
+write_fails a pixels play.WantMemory before after all rest is part = part
+
+pub show_fails : (a : Asked) (pixels : Bool) (was p : Player) (old : Screen) (shown : List Frame) (f : ShownFrame) (why : PlayFault) (file left rest before middle after : Option (List ℕ)) →
+    Showing a pixels was old shown false file left before middle → ShowsNext p shown f file rest → p.minor ≡ was.minor → IsUnwritten why → AppendsPart middle after (text_by old p f) →
+    IfTold file rest (Answers a pixels before after (Err why))
+show_fails a pixels was p old shown f why file left rest before middle after s next minor unwritten wrote =
+    let all_shown = shown ++ frame_of (bytes_of p.replayer) f ∷ [] in
+    let listed = s.listing ∙ ap (λ m. listing_of m pixels) (sym minor) in
+    let part : AppendsPart before after (lines_of (listing_of p.minor pixels) (asked_of a all_shown)) =
+    subst (AppendsPart before after) (lines_then a old (listing_of p.minor pixels) p shown f file rest next.plays s.asked listed)
+    (part_then before middle after _ _ (subst (λ m. Appends before middle (lines_of (listing_of m pixels) (asked_of a shown))) (sym minor) s.text) wrote) in
+    told_if file rest _ (Answers a pixels before after (Err why)) (plays_first p all_shown file rest next.plays)
+    (λ all rest is. write_fails a pixels why before after all rest unwritten
+    (lines_front a pixels all_shown all before after is.0 (subst (λ m. AppendsPart before after (lines_of (listing_of m pixels) (asked_of a all_shown))) is.1 part)))
+
+-- ---- no further frame comes
+
+stops : (a : Asked) (pixels : Bool) (shown : List Frame) (why : PlayFault) (before after : Option (List ℕ)) (all rest : List ℕ) → has_last a shown ≡ false →
+    Appends before after (lines_of (listing_of (minor_of all) pixels) (asked_of a shown)) → IsStopped shown why all rest → Answers a pixels before after (Err why) all rest
+stops a pixels shown (play.Bad fault block offset) before after all rest unseen text s = record {
+  end = s.stops.ends;
+  unseen = ap (has_last a) s.stops.shows ∙ unseen;
+  text = subst (λ fs. Appends before after (lines_of (listing_of (minor_of all) pixels) (asked_of a fs))) (sym s.stops.shows) text;
+}
+stops a pixels shown (play.NoSuchFrame first last) before after all rest unseen text s = absurd s.stops
+stops a pixels shown play.ReadFault before after all rest unseen text s =
+    let c = s.stops in
     record {
-      given = g.given;
-      parts = g.parts;
-      lawful = ap (λ (j : Judged). j.end) judged ∙ sym (ap (λ (b : Blocks). b.end) g.blocks);
-      unseen = ap (has_last a) shows ∙ p.unseen;
-      text = subst (λ m. Appends before after (lines_of (record { minor = m; pixels = pixels }) (asked_of a (frames_in g.given)))) minor
-          (subst (λ fs. Appends before after (lines_of (record { minor = minor_of all; pixels = pixels }) (asked_of a fs))) (sym shows) p.text);
-      front = played_front a pixels all stage screen left before after p;
+      given = c.given;
+      parts = c.parts;
+      cut = c.cut;
+      lawful = c.lawful;
+      unseen = ap (has_last a) c.shows ∙ unseen;
+      text = subst (λ fs. Appends before after (lines_of (listing_of (minor_of c.given) pixels) (asked_of a fs))) (sym c.shows)
+          (subst (Appends before after) (sym (lines_in_version a pixels (minor_of c.given) (minor_of all) shown c.minor)) text);
+      front = lines_front a pixels shown all before after s.first (whole_part before after _ text);
     }
+stops a pixels shown play.SinkFault before after all rest unseen text s = absurd s.stops
+stops a pixels shown play.WantMemory before after all rest unseen text s = lines_front a pixels shown all before after s.first (whole_part before after _ text)
 
--- ---- the header
+pub open_fails : (a : Asked) (pixels : Bool) (why : PlayFault) (file rest taken : Option (List ℕ)) → IfTold file rest (IsStopped [] why) → IfTold file rest (Answers a pixels taken taken (Err why))
+open_fails a pixels why file rest taken told =
+    told_if file rest (IsStopped [] why) (Answers a pixels taken taken (Err why)) told
+    (λ all rest s. stops a pixels [] why taken taken all rest refl (subst (Appends taken taken) (sym (lines_none (listing_of (minor_of all) pixels))) (appends_none taken)) s)
 
-pub header_fails : (a : Asked) (pixels : Bool) (taken : Option (List ℕ)) (why : DecodeFault) (old new : Option (List ℕ)) → IfTold old new (GivesHeader (Err why)) → StopsInHeader old new why →
-    IfTold old new (Answers a pixels taken taken (Err (of_decoder why)))
-unfolding judge frames lines_of
-header_fails a pixels taken (decoder.Bad fault block offset) old new gives stops =
-    told_if old new (GivesHeader (Err (decoder.Bad fault block offset))) (Answers a pixels taken taken (Err (show.Bad fault block offset))) gives
-    (λ all rest gives. bad_so a pixels all [] taken taken fault block offset (record { is = ap judged_of gives }) refl (appends_none taken))
-header_fails a pixels taken decoder.ReadFault old new gives stops =
-    told_if old new (IsGiven []) (Answers a pixels taken taken (Err show.ReadFault)) (header_stops old new (GivesHeader (Err decoder.ReadFault)) gives stops)
-    (λ all rest given. cut_header a pixels taken all rest given)
-header_fails a pixels taken decoder.WantMemory old new gives stops =
-    told_if old new (GivesHeader (Err decoder.WantMemory)) (Answers a pixels taken taken (Err show.WantMemory)) gives (λ all rest gives. nothing_written taken (text_in a pixels all))
+pub next_fails : (a : Asked) (pixels : Bool) (p : Player) (s : Screen) (shown : List Frame) (why : PlayFault) (file left rest before after : Option (List ℕ)) →
+    Showing a pixels p s shown false file left before after → IfTold file rest (IsStopped shown why) → IfTold file rest (Answers a pixels before after (Err why))
+next_fails a pixels p s shown why file left rest before after w told =
+    told_beside file left rest _ (IsStopped shown why) (Answers a pixels before after (Err why)) (plays_first p shown file left w.plays) told
+    (λ all left rest is stopped. stops a pixels shown why before after all rest w.last (subst (λ m. Appends before after (lines_of (listing_of m pixels) (asked_of a shown))) is.1 w.text) stopped)
 
--- ---- the next block
+-- ---- behind the last frame that is asked for
 
-pub next_fails : (a : Asked) (pixels : Bool) (count : ℕ) (stage : Stage) (screen : Screen) (file old new before after : Option (List ℕ)) (why : DecodeFault) → IsBehind count stage →
-    IfTold file old (λ all left. Played a pixels all stage screen left before after) → IfTold old new (Gives stage (Err why)) →
-    ((minor : ℕ) (at : Position) → stage ≡ At minor at → StopsAt minor at old new why) → IfTold file new (Answers a pixels before after (Err (of_decoder why)))
-next_fails a pixels count stage screen file old new before after (decoder.Bad fault block offset) place played gives stops =
-    told_through file old new (λ all left. Played a pixels all stage screen left before after) (Gives stage (Err (decoder.Bad fault block offset))) (Answers a pixels before after (Err (show.Bad fault block offset))) played gives
-    (λ all left rest p gives. played_bad a pixels all stage screen left before after fault block offset p gives)
-next_fails a pixels count stage screen file old new before after decoder.ReadFault place played gives stops =
-    told_through file old new (λ all left. Played a pixels all stage screen left before after) (GivesNone stage) (Answers a pixels before after (Err show.ReadFault)) played
-    (told_stop count stage old new (Gives stage (Err decoder.ReadFault)) place gives stops)
-    (λ all left rest p none. cut_behind a pixels all stage screen left rest before after p none)
-next_fails a pixels count stage screen file old new before after decoder.WantMemory place played gives stops =
-    told_through file old new (λ all left. Played a pixels all stage screen left before after) (Gives stage (Err decoder.WantMemory)) (Answers a pixels before after (Err show.WantMemory)) played gives
-    (λ all left rest p gives. played_front a pixels all stage screen left before after p)
+done : (a : Asked) (pixels : Bool) (shown : List Frame) (f : Frame) (before after : Option (List ℕ)) (all rest : List ℕ) → has_last a shown ≡ false → has_last a (shown ++ f ∷ []) ≡ true →
+    LastShown a (shown ++ f ∷ []) (frames_in all) → IsBehindFrame shown f all rest → Appends before after (text_in a pixels all) → IsShown a pixels before after all × Leaves a all rest
+done asked.All pixels shown f before after all rest unseen there l behind text = absurd (never_last (shown ++ f ∷ []) there)
+done (asked.Between x y) pixels shown f before after all rest unseen there l behind text = (
+  record { complete = l.last; text = text },
+  behind_last (asked.Between x y) shown f all rest behind unseen there,
+)
 
--- ---- a block that is not taken, or whose frame is not written whole
+pub shown_last : (a : Asked) (pixels : Bool) (p : Player) (s : Screen) (shown : List Frame) (f : Frame) (r : Result Unit PlayFault) (file rest before middle after : Option (List ℕ)) → has_last a shown ≡ false →
+    Showing a pixels p s (shown ++ f ∷ []) true file rest before middle → IfTold file rest (IsBehindFrame shown f) → OnOk r (Appends middle after (count_line (codes "frames") s.count)) →
+    AppendsPart middle after (count_line (codes "frames") s.count) → IfErr r IsUnwritten → IfTold file rest (Answers a pixels before after r)
+shown_last a pixels p s shown f r file rest before middle after unseen w behind ok front err =
+    told_beside file rest rest _ (λ all rest. LastShown a (shown ++ f ∷ []) (frames_in all) × IsBehindFrame shown f all rest) (Answers a pixels before after r) (plays_first p (shown ++ f ∷ []) file rest w.plays)
+    (told_beside file rest rest _ (IsBehindFrame shown f) (λ all rest. LastShown a (shown ++ f ∷ []) (frames_in all) × IsBehindFrame shown f all rest) (last_shown a p (shown ++ f ∷ []) file rest w.plays w.last) behind (λ all left rest l b. (l, b)))
+    (λ all left rest is both. by r ok err all rest both.0 both.1 (subst (λ m. Appends before middle (lines_of (listing_of m pixels) (asked_of a (shown ++ f ∷ [])))) is.1 w.text))
+  where
+    by : (r : Result Unit PlayFault) → OnOk r (Appends middle after (count_line (codes "frames") s.count)) → IfErr r IsUnwritten → (all rest : List ℕ) → LastShown a (shown ++ f ∷ []) (frames_in all) →
+        IsBehindFrame shown f all rest → Appends before middle (lines_of (listing_of (minor_of all) pixels) (asked_of a (shown ++ f ∷ []))) → Answers a pixels before after r all rest
+    by (Ok tt) ok err all rest l b text =
+        done a pixels shown f before after all rest unseen w.last l b (text_whole a pixels (shown ++ f ∷ []) s.count all before middle after l.asked w.count text ok)
+    by (Err why) ok err all rest l b text =
+        write_fails a pixels why before after all rest err (text_part a pixels (shown ++ f ∷ []) s.count all before middle after l.asked w.count text front)
 
--- a front of what the block adds was written
-front_more : (a : Asked) (pixels : Bool) (all : List ℕ) (old new : Stage) (was : Screen) (left rest : List ℕ) (before middle after : Option (List ℕ)) (w : Whole) (p : Played a pixels all old was left before middle) →
-    ComesNext old new w → left ≡ w.bytes ++ rest → content_fault (history_of p.fed) w.content ≡ None → AppendsPart middle after (lines_by was (history_of p.fed) w.content) →
-    AppendsPart before after (text_in a pixels all)
-front_more a pixels all old new was left rest before middle after w p comes took none wrote =
-    let h = history_of p.fed in
-    front_of a pixels all (p.fed ++ w ∷ []) new rest before after (fed_more p.fed w old new all left rest p.fits comes took)
-    (subst (λ h. is_valid h ≡ true) (sym (onto_parts p.fed (w ∷ []) [])) (valid_more h w.content (p.stands).replays.stands.valid none))
-    (subst (AppendsPart before after) (lines_then a pixels all was p.fed w p.asked p.listing)
-    (part_then before middle after (lines_of (record { minor = minor_of all; pixels = pixels }) (asked_of a (frames h))) (lines_by was h w.content) p.text wrote))
+-- ---- at the clean end of the file
 
-pub take_fails : (a : Asked) (pixels : Bool) (all : List ℕ) (old : Stage) (was : Screen) (left rest : List ℕ) (before middle after : Option (List ℕ)) (raw : Raw) (why : ShowFault) (p : Played a pixels all old was left before middle) →
-    IsBlockAt old raw → left ≡ raw.bytes.now ++ rest → Refuses (history_of p.fed) (item_of raw) why →
-    ((fault : Fault) (block offset : ℕ) → why ≡ show.Bad fault block offset → after ≡ middle) →
-    AppendsPart middle after (lines_by was (history_of p.fed) (item_of raw).content) → Answers a pixels before after (Err why) all rest
-take_fails a pixels all old was left rest before middle after raw (show.Bad fault block offset) p block_is took refuses same wrote =
-    let is : IsBadAt a pixels before middle fault raw.number raw.offset all = played_rule a pixels all old (behind old raw) was left rest before middle (item_of raw) fault p (block_comes old raw block_is) took refuses.2 in
-    let here : IsBadAt a pixels before middle fault block offset all = subst (λ n. IsBadAt a pixels before middle fault n offset all) (sym refuses.0) (subst (λ n. IsBadAt a pixels before middle fault raw.number n all) (sym refuses.1) is) in
-    subst (λ t. IsBadAt a pixels before t fault block offset all) (sym (same fault block offset refl)) here
-take_fails a pixels all old was left rest before middle after raw (show.NoSuchFrame first last) p here took refuses same wrote = absurd refuses
-take_fails a pixels all old was left rest before middle after raw show.ReadFault p here took refuses same wrote = absurd refuses
-take_fails a pixels all old was left rest before middle after raw show.SinkFault p here took refuses same wrote = front_more a pixels all old (behind old raw) was left rest before middle after (item_of raw) p (block_comes old raw here) took refuses wrote
-take_fails a pixels all old was left rest before middle after raw show.WantMemory p here took refuses same wrote = front_more a pixels all old (behind old raw) was left rest before middle after (item_of raw) p (block_comes old raw here) took refuses wrote
+pub shown_end : (a : Asked) (pixels : Bool) (was p : Player) (s : Screen) (shown : List Frame) (r : Result Unit PlayFault) (file left rest before middle after : Option (List ℕ)) →
+    Showing a pixels was s shown false file left before middle → IfTold file rest (HasAll p shown) →
+    OnOk r ((s.asked ≡ asked.All) × Appends middle after (count_line (codes "frames") s.count)) →
+    ((first last : ℕ) → r ≡ Err (play.NoSuchFrame first last) → IsRange s.asked × (after ≡ middle) × (first ≡ first_frame_of p) × (last ≡ next_frame_of p - 1)) →
+    AppendsPart middle after (count_line (codes "frames") s.count) → IfErr r EndsOnly → IfTold file rest (Answers a pixels before after r)
+shown_end a pixels was p s shown r file left rest before middle after w told ok without front err =
+    told_beside file left rest _ (HasAll p shown) (Answers a pixels before after r) (plays_first was shown file left w.plays) told
+    (λ all left rest is h. by r ok without err all rest h (subst (λ m. Appends before middle (lines_of (listing_of m pixels) (asked_of a shown))) is.1 w.text))
+  where
+    whole : (all rest : List ℕ) → HasAll p shown all rest → AppendsPart middle after (count_line (codes "frames") s.count) →
+        Appends before middle (lines_of (listing_of (minor_of all) pixels) (asked_of a shown)) → AppendsPart before after (text_in a pixels all)
+    whole all rest h part text = text_part a pixels shown s.count all before middle after (ap (asked_of a) h.just.shows) w.count text part
 
--- ---- the number line
+    all_shown : (all rest : List ℕ) → HasAll p shown all rest → (b : Asked) → b ≡ asked.All → b ≡ a → Appends before after (text_in a pixels all) → IsShown a pixels before after all × Leaves a all rest
+    all_shown all rest h b every same text =
+        subst (λ a. Appends before after (text_in a pixels all) → IsShown a pixels before after all × Leaves a all rest) (sym every ∙ same)
+        (λ text. (record { complete = h.just.ends; text = text }, h.read)) text
 
-pub last_fails : (why : PrintFault) (a : Asked) (pixels : Bool) (before after : Option (List ℕ)) (all rest : List ℕ) → AppendsPart before after (text_in a pixels all) → Answers a pixels before after (Err (of_printer why)) all rest
-last_fails printer.SinkFault a pixels before after all rest part = part
-last_fails printer.WantMemory a pixels before after all rest part = part
-
-pub end_told : (a : Asked) (pixels : Bool) (all : List ℕ) (stage : Stage) (screen : Screen) (left rest : List ℕ) (before middle after : Option (List ℕ)) (r : Result Unit ShowFault) →
-    Played a pixels all stage screen left before middle → Gives stage (Ok None) left rest → rest ≡ [] →
-    OnOk r ((screen.asked ≡ asked.All) × Appends middle after (count_line (codes "frames") screen.count)) →
-    ((first last : ℕ) → r ≡ Err (show.NoSuchFrame first last) → IsRange screen.asked × (after ≡ middle) × (first ≡ unwrap_or screen.first (next_frame_of screen)) × (last ≡ next_frame_of screen - 1)) →
-    IfErr r EndsOnly → AppendsPart middle after (count_line (codes "frames") screen.count) → Answers a pixels before after r all rest
-end_told a pixels all stage screen left rest before middle after (Ok done) p gives none ok without ends part =
-    subst (λ a. Played a pixels all stage screen left before middle → IsShown a pixels before after all × Leaves a all rest) (sym ok.0 ∙ p.asked)
-    (λ p. (played_all pixels all stage screen left before middle after p gives ok.1, none)) p
-end_told a pixels all stage screen left rest before middle after (Err (show.Bad fault block offset)) p gives none ok without ends part = absurd ends
-end_told a pixels all stage screen left rest before middle after (Err (show.NoSuchFrame first last)) p gives none ok without ends part =
-    let w = without first last refl in
-    subst (λ t. IsWithout a pixels before t first last all) (sym w.1) (played_without a pixels all stage screen left before middle first last p gives w.0 w.2 w.3)
-end_told a pixels all stage screen left rest before middle after (Err show.ReadFault) p gives none ok without ends part = absurd ends
-end_told a pixels all stage screen left rest before middle after (Err show.SinkFault) p gives none ok without ends part = end_front a pixels all stage screen left before middle after p gives part
-end_told a pixels all stage screen left rest before middle after (Err show.WantMemory) p gives none ok without ends part = end_front a pixels all stage screen left before middle after p gives part
+    by : (r : Result Unit PlayFault) → OnOk r ((s.asked ≡ asked.All) × Appends middle after (count_line (codes "frames") s.count)) →
+        ((first last : ℕ) → r ≡ Err (play.NoSuchFrame first last) → IsRange s.asked × (after ≡ middle) × (first ≡ first_frame_of p) × (last ≡ next_frame_of p - 1)) → IfErr r EndsOnly →
+        (all rest : List ℕ) → HasAll p shown all rest → Appends before middle (lines_of (listing_of (minor_of all) pixels) (asked_of a shown)) → Answers a pixels before after r all rest
+    by (Ok tt) ok without err all rest h text =
+        all_shown all rest h s.asked ok.0 w.asked (text_whole a pixels shown s.count all before middle after (ap (asked_of a) h.just.shows) w.count text ok.1)
+    by (Err (play.Bad fault block offset)) ok without err all rest h text = absurd err
+    by (Err (play.NoSuchFrame first last)) ok without err all rest h text =
+        let x = without first last refl in
+        subst (λ t. IsWithout a pixels before t first last all rest) (sym x.1) record {
+          range = subst IsRange w.asked x.0;
+          end = h.just.ends;
+          unseen = ap (has_last a) h.just.shows ∙ w.last;
+          first_is = x.2 ∙ lowest_is p shown all rest h;
+          last_is = x.3 ∙ highest_is p shown all rest h;
+          text = subst (λ fs. Appends before middle (lines_of (listing_of (minor_of all) pixels) (asked_of a fs))) (sym h.just.shows) text;
+          read = h.read;
+        }
+    by (Err play.ReadFault) ok without err all rest h text = absurd err
+    by (Err play.SinkFault) ok without err all rest h text = whole all rest h front text
+    by (Err play.WantMemory) ok without err all rest h text = whole all rest h front text

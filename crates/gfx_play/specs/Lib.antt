@@ -1,5 +1,3 @@
-pub mod Asked
 pub mod Faults
 pub mod Screens
 pub mod Shows
-pub mod Played

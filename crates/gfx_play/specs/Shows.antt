@@ -2,21 +2,19 @@
 use Rattle.std.specs.Prelude.{◌≡◌, ℕ, Bool, true, false, List, [], ◌∷◌, ◌++◌, Option, Result, Ok, Err, ⊤}
 use Rattle.std.specs.Io.KnownBytes.{Appends}
 use Rattle.gfx_io.specs.Pieces.{AppendsPart}
-use Rattle.gfx_model.specs.Blocks.{Whole, minor_of}
+use Rattle.gfx_model.specs.Blocks.{minor_of}
 use Rattle.gfx_model.specs.Blocks.End.{clean, bad}
 use Rattle.gfx_model.specs.Text.{frames_text}
 use Rattle.sha2.specs.Sha256.{sha256}
-use Rattle.gfx_grammar.specs.Framing.{IsHeader}
 use Rattle.gfx_grammar.specs.Splitting.{blocks_of}
 use Rattle.gfx_types.specs.declared.names.Fault.{Fault}
-use Rattle.gfx_play.specs.declared.asked.Asked.{Asked}
-use Rattle.gfx_play.specs.declared.asked.Asked.TheVariants as asked
-use Rattle.gfx_play.specs.Asked.{asked_of, has_last}
-use Rattle.gfx_model.specs.Frames.{frames}
-use Rattle.gfx_play.specs.declared.fault.ShowFault.{ShowFault}
-use Rattle.gfx_play.specs.declared.fault.ShowFault.TheVariants as show
-use Rattle.gfx_decode.specs.Fed.{file_with, history_of}
-use Rattle.gfx_decode.specs.Meanings.{frames_in, end_of, history_in, first_in, last_in}
+use Rattle.gfx_player.specs.declared.asked.Asked.{Asked}
+use Rattle.gfx_player.specs.declared.asked.Asked.TheVariants as asked
+use Rattle.gfx_player.specs.Asked.{IsBehindLast, asked_of, has_last}
+use Rattle.gfx_player.specs.declared.fault.PlayFault.{PlayFault}
+use Rattle.gfx_player.specs.declared.fault.PlayFault.TheVariants as play
+use Rattle.gfx_player.specs.Fed.{IsUnfinished}
+use Rattle.gfx_player.specs.Meanings.{frames_in, end_of, history_in, first_in, last_in}
 use Rattle.gfx_play.specs.Screens.{lines_of}
 
 -- the lines of the frames that are asked for
@@ -48,47 +46,45 @@ pub record IsBadAt (a : Asked) (pixels : Bool) (before after : Option (List ℕ)
   pub unseen : has_last a (frames_in bytes) ≡ false
   pub text : Appends before after (lines_in a pixels bytes)
 
--- the file ends cleanly without a frame that is asked for, and has these
-pub record IsWithout (a : Asked) (pixels : Bool) (before after : Option (List ℕ)) (first last : ℕ) (bytes : List ℕ) : Type 0 where
+-- the file ends cleanly without a frame that is asked for, has these, and was read to its end
+pub record IsWithout (a : Asked) (pixels : Bool) (before after : Option (List ℕ)) (first last : ℕ) (bytes left : List ℕ) : Type 0 where
   pub range : IsRange a
   pub end : end_of bytes ≡ clean
   pub unseen : has_last a (frames_in bytes) ≡ false
   pub first_is : first ≡ first_in (history_in bytes)
   pub last_is : last ≡ last_in (history_in bytes)
   pub text : Appends before after (lines_in a pixels bytes)
+  pub read : left ≡ []
 
--- a read failed before the last frame that is asked for and before any rule fault: the frames of the bytes that were given were shown
+-- A read failed. In the bytes that were given stands neither a bad block nor the last frame that is asked for, and the next block isn't whole. Their frames were shown.
 pub record IsCut (a : Asked) (pixels : Bool) (before after : Option (List ℕ)) (bytes left : List ℕ) : Type 0 where
   pub given : List ℕ
   pub parts : bytes ≡ given ++ left
+  pub cut : IsUnfinished (blocks_of given).items given
   pub lawful : end_of given ≡ (blocks_of given).end
   pub unseen : has_last a (frames_in given) ≡ false
   pub text : Appends before after (lines_in a pixels given)
   -- which are the first lines of all
   pub front : AppendsPart before after (text_in a pixels bytes)
 
--- what is left follows the header and the first blocks of the file, up to the one that shows the last frame
-pub record IsBehindLast (a : Asked) (bytes left : List ℕ) : Type 0 where
-  pub head : List ℕ
-  pub header : IsHeader head
-  pub fed : List Whole
-  pub block : Whole
-  pub later : List Whole
-  pub blocks : (blocks_of bytes).items ≡ fed ++ block ∷ later
-  pub parts : bytes ≡ file_with head (fed ++ block ∷ []) left
-  pub before : has_last a (frames (history_of fed)) ≡ false
-  pub there : has_last a (frames (history_of (fed ++ block ∷ []))) ≡ true
-
 -- a file is read to its end, or through the block that shows the last frame
 abbrev pub Leaves : Asked → List ℕ → List ℕ → Type 0
 Leaves asked.All bytes left = left ≡ []
 Leaves (asked.Between a b) bytes left = IsBehindLast (asked.Between a b) bytes left
 
+-- what the end of a file may answer
+abbrev pub EndsOnly : PlayFault → Type 0
+EndsOnly (play.Bad fault block offset) = ⊥
+EndsOnly (play.NoSuchFrame first last) = ⊤
+EndsOnly play.ReadFault = ⊥
+EndsOnly play.SinkFault = ⊤
+EndsOnly play.WantMemory = ⊤
+
 -- what was written, by the answer: all, what stands before a bad block or a failed read, what is there of a range, or a front
-abbrev pub Answers : Asked → Bool → Option (List ℕ) → Option (List ℕ) → Result Unit ShowFault → List ℕ → List ℕ → Type 0
+abbrev pub Answers : Asked → Bool → Option (List ℕ) → Option (List ℕ) → Result Unit PlayFault → List ℕ → List ℕ → Type 0
 Answers a pixels before after (Ok done) bytes left = IsShown a pixels before after bytes × Leaves a bytes left
-Answers a pixels before after (Err (show.Bad fault block offset)) bytes left = IsBadAt a pixels before after fault block offset bytes
-Answers a pixels before after (Err (show.NoSuchFrame first last)) bytes left = IsWithout a pixels before after first last bytes
-Answers a pixels before after (Err show.ReadFault) bytes left = IsCut a pixels before after bytes left
-Answers a pixels before after (Err show.SinkFault) bytes left = AppendsPart before after (text_in a pixels bytes)
-Answers a pixels before after (Err show.WantMemory) bytes left = AppendsPart before after (text_in a pixels bytes)
+Answers a pixels before after (Err (play.Bad fault block offset)) bytes left = IsBadAt a pixels before after fault block offset bytes
+Answers a pixels before after (Err (play.NoSuchFrame first last)) bytes left = IsWithout a pixels before after first last bytes left
+Answers a pixels before after (Err play.ReadFault) bytes left = IsCut a pixels before after bytes left
+Answers a pixels before after (Err play.SinkFault) bytes left = AppendsPart before after (text_in a pixels bytes)
+Answers a pixels before after (Err play.WantMemory) bytes left = AppendsPart before after (text_in a pixels bytes)

@@ -15,9 +15,9 @@ use Rattle.gfx_grammar.specs.Reads.{AreBytes}
 use Rattle.gfx_grammar.specs.Splitting.{Blocks, blocks_of}
 use Rattle.gfx_trim_law.specs.Law.{frames_from}
 use Rattle.gfx_trim_law.proofs.Prefix.{prefix}
-use Rattle.gfx_decode.specs.Meanings.{frames_in, end_of, judged_of, history_in, first_of}
-use Rattle.gfx_play.specs.declared.asked.Asked.TheVariants.{Between}
-use Rattle.gfx_play.specs.Asked.{asked_of, has_last}
+use Rattle.gfx_player.specs.Meanings.{frames_in, end_of, judged_of, history_in, first_of}
+use Rattle.gfx_player.specs.declared.asked.Asked.TheVariants.{Between}
+use Rattle.gfx_player.specs.Asked.{asked_of, has_last}
 use Rattle.gfx_trim.specs.Keeps.{Keeps}
 use Rattle.gfx_trim.specs.Numbers.{IsInside}
 use Rattle.gfx_trim.proofs.Numbers.{inside}

@@ -6,9 +6,9 @@ use Rattle.std.proofs.lemmas.Bool.{eqb-false, le-leb, lt-leb}
 use Rattle.gfx_types.specs.declared.frame.Frame.{Frame}
 use Rattle.gfx_model.specs.Meaning.{frames_to, has_frame}
 use Rattle.gfx_trim_law.specs.Law.{frames_from}
-use Rattle.gfx_play.specs.declared.asked.Asked.TheVariants.{Between}
-use Rattle.gfx_decode.specs.Meanings.{first_of}
-use Rattle.gfx_play.specs.Asked.{asked_of, has_last}
+use Rattle.gfx_player.specs.declared.asked.Asked.TheVariants.{Between}
+use Rattle.gfx_player.specs.Meanings.{first_of}
+use Rattle.gfx_player.specs.Asked.{asked_of, has_last}
 
 -- ---- numbers one after another
 

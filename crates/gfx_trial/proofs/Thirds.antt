@@ -7,7 +7,7 @@ use Rattle.gfx_model.specs.Blocks.End.{clean}
 use Rattle.gfx_model.specs.Frames.{frames}
 use Rattle.gfx_model.specs.History.{onto}
 use Rattle.gfx_model.specs.Meaning.{Means}
-use Rattle.gfx_decode.specs.Meanings.{first_of}
+use Rattle.gfx_player.specs.Meanings.{first_of}
 use Rattle.gfx_make.specs.Made.{made, made_file}
 use Rattle.gfx_make.specs.Shown.{shown_frame}
 use Rattle.gfx_make.proofs.Meaning.{made_is_meant}

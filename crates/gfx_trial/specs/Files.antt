@@ -6,7 +6,7 @@ use Rattle.gfx_types.specs.declared.frame.Frame.{Frame}
 use Rattle.gfx_model.specs.Blocks.End.{clean}
 use Rattle.gfx_model.specs.Meaning.{Means, frames_to}
 use Rattle.gfx_trim_law.specs.Law.{frames_from}
-use Rattle.gfx_decode.specs.Meanings.{first_of}
+use Rattle.gfx_player.specs.Meanings.{first_of}
 use Rattle.gfx_digest.specs.declared.digest.Digested.{Digested}
 use Rattle.gfx_digest.specs.Images.{image_bytes}
 

@@ -1,13 +1,14 @@
 //! A range of frames that a file has, cut out and hashed.
 ghost use Rattle.std.specs.Prelude.{◌≡◌, ◌≤◌, List, IfOk};
 ghost use Rattle.gfx_types.specs.declared.frame.Frame.{Frame};
-ghost use Rattle.gfx_trim.specs.Faults.{IsUnwritten};
+ghost use Rattle.gfx_player.specs.Faults.{IsUnwritten};
 ghost use Rattle.gfx_trial.specs.Files.{HasFrames, digested};
 
 use crate::file::FileBytes;
-use gfx_digest::{DigestFault, Digested, digest_frames};
+use gfx_digest::{Digested, digest_frames};
 use gfx_io::MemSink;
-use gfx_trim::{TrimFault, trim};
+use gfx_player::PlayFault;
+use gfx_trim::trim;
 use gfx_types::WantMemory;
 use std::alloc::Global;
 
@@ -30,19 +31,6 @@ pub(crate) fn cut_out(
     }
 }
 
-/// What was wanting where a file has the frames and its reads don't fail: memory, also of the sink.
-fn lacking(fault: TrimFault) -> WantMemory
-    requires { IsUnwritten fault }
-{
-    match fault {
-        TrimFault::SinkFault => WantMemory,
-        TrimFault::WantMemory => WantMemory,
-        TrimFault::ReadFault => unreachable!(),
-        TrimFault::NoSuchFrame { .. } => unreachable!(),
-        TrimFault::Bad { .. } => unreachable!(),
-    }
-}
-
 /// The digest of a range of frames of a file that has them.
 pub(crate) fn digest_of(
     alloc: Global,
@@ -57,18 +45,19 @@ pub(crate) fn digest_of(
     let mut source = FileBytes { rest: file };
     match digest_frames(alloc, first, last, &mut source) {
         Ok(digested) => Ok(digested),
-        Err(fault) => Err(unhashed(fault)),
+        Err(fault) => Err(lacking(fault)),
     }
 }
 
-/// The same where the frames are hashed.
-fn unhashed(fault: DigestFault) -> WantMemory
-    requires { fault ≡ DigestFault.WantMemory }
+/// What was wanting where a file has the frames and its reads don't fail: memory, also of the sink.
+fn lacking(fault: PlayFault) -> WantMemory
+    requires { IsUnwritten fault }
 {
     match fault {
-        DigestFault::WantMemory => WantMemory,
-        DigestFault::ReadFault => unreachable!(),
-        DigestFault::NoSuchFrame { .. } => unreachable!(),
-        DigestFault::Bad { .. } => unreachable!(),
+        PlayFault::SinkFault => WantMemory,
+        PlayFault::WantMemory => WantMemory,
+        PlayFault::ReadFault => unreachable!(),
+        PlayFault::NoSuchFrame { .. } => unreachable!(),
+        PlayFault::Bad { .. } => unreachable!(),
     }
 }

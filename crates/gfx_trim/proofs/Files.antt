@@ -1,94 +1,91 @@
--- A file that is trimmed, block by block.
-use Rattle.std.proofs.Common.{◌≡◌, ◌≤◌, ◌+◌, ◌-◌, ◌==◌, ◌||◌, cond, if◌then◌else◌, ℕ, Bool, true, false, List, [], ◌∷◌, ◌++◌, Option, Some, None, Ok, refl, sym, ap, subst, ◌∙◌, append_assoc, arith}
-use Rattle.std.specs.Prelude.{unwrap_or, option_map}
+-- A file that is trimmed, block by block, and what the call answers where it stops.
+use Rattle.std.proofs.Common.{◌≡◌, ◌≤◌, ◌⊎◌, inl, inr, ◌+◌, ◌-◌, ◌==◌, ◌||◌, cond, if◌then◌else◌, ℕ, Bool, true, false, List, [], ◌∷◌, ◌++◌, Option, Some, None, Result, Ok, Err, refl, sym, ap, subst, ◌∙◌, append_assoc, arith}
+use Rattle.std.specs.Prelude.{option_map, unwrap_or}
 use Rattle.std.specs.Io.KnownBytes.{Appends}
-use Rattle.std.proofs.lemmas.List.{append-nil}
 use Rattle.std.proofs.lemmas.Bool.{eq-eqb, or_left, or_right}
 use Rattle.std.proofs.lemmas.List.Folds.{list_any-append}
 use Rattle.gfx_io.specs.Pieces.{AppendsPart}
+use Rattle.gfx_io.specs.Told.{IfTold}
 use Rattle.gfx_types.specs.declared.frame.Frame.{Frame}
 use Rattle.gfx_types.specs.declared.names.Fault.{Fault}
 use Rattle.gfx_model.specs.Events.{Event}
-use Rattle.gfx_model.specs.Blocks.{Whole, End, minor_of}
-use Rattle.gfx_model.specs.Blocks.End.{clean, bad}
+use Rattle.gfx_model.specs.Blocks.{Whole, minor_of}
+use Rattle.gfx_model.specs.Blocks.End.{clean}
 use Rattle.gfx_model.specs.History.{is_valid, view}
 use Rattle.gfx_model.specs.Views.{View}
 use Rattle.gfx_model.specs.Frames.{frames}
-use Rattle.gfx_model.specs.Meaning.{Judged, content_fault, content_onto, has_frame, judge}
+use Rattle.gfx_model.specs.Meaning.{content_fault, has_frame}
 use Rattle.gfx_model.specs.Trimmed.{Cut, cut_before, reaches, is_first, boundary, has_boundary, history_to, range_from, trimmed_by}
 use Rattle.gfx_model.proofs.Cutting.{shown_is_reached}
 use Rattle.gfx_model.proofs.Lists.{all_along}
-use Rattle.gfx_grammar.proofs.HeaderLaws.{minor_of-append}
 use Rattle.gfx_grammar.specs.Reads.{AreBytes}
-use Rattle.gfx_grammar.specs.Splitting.{Blocks, blocks_of, only_end, with_item}
+use Rattle.gfx_grammar.specs.Splitting.{Blocks, blocks_of}
 use Rattle.gfx_trim_law.proofs.Boundary.{at_boundary, boundary_there}
-use Rattle.gfx_trim_law.proofs.Prefix.{prefix}
+use Rattle.gfx_trim_law.proofs.Prefix.{prefix, valid_more}
 use Rattle.gfx_trim_law.proofs.Cuts.{valid_start}
 use Rattle.gfx_trim_law.proofs.Each.{begun_is_shown}
 use Rattle.gfx_trim_law.proofs.Numbers.{numbered, number_of}
 use Rattle.gfx_replay.specs.Fed.{frame_by}
-use Rattle.gfx_decode.specs.Stage.{Stage, At}
-use Rattle.gfx_decode.specs.Decoding.{coming, GivesHeader, start_of}
-use Rattle.gfx_decode.specs.Reading.{IsHeader}
-use Rattle.gfx_blocks.specs.declared.header.Header.{Header}
-use Rattle.gfx_decode.specs.Fed.{ComesNext, history_of, IsFed, IsGiven}
-use Rattle.gfx_decode.specs.Meanings.{end_of, judged_of, first_in, last_in, history_in}
-use Rattle.gfx_decode.proofs.Feeding.{fed_blocks, fed_more, fed_none}
-use Rattle.gfx_decode.proofs.Judging.{judged_end, judged_fault, judged_given}
-use Rattle.gfx_trim_law.proofs.Prefix.{valid_more}
-use Rattle.gfx_decode.proofs.Stopping.{GivesNone, stops_behind_blocks}
+use Rattle.gfx_decode.proofs.Told.{told_if}
+use Rattle.gfx_decode.specs.Decoding.{coming}
+use Rattle.gfx_io.proofs.Appending.{appends_none, part_of, whole_part}
+use Rattle.gfx_player.specs.declared.fault.PlayFault.{PlayFault}
+use Rattle.gfx_player.specs.declared.fault.PlayFault.TheVariants as play
+use Rattle.gfx_player.specs.declared.player.Player.{Player}
+use Rattle.gfx_player.specs.Ends.{BeginsWith, EndsBehind, StopsBehind}
+use Rattle.gfx_player.specs.Fed.{IsUnfinished, IsFed, file_with, history_of}
+use Rattle.gfx_player.specs.Meanings.{first_in, history_in, last_in, valid_from}
+use Rattle.gfx_player.specs.Walks.{HasRead, IsReadAlike, IsReplayedAlike, Refuses, first_frame_of, next_frame_of}
+use Rattle.gfx_player.proofs.Feeding.{fed_blocks}
+use Rattle.gfx_player.proofs.Judging.{judged_given, valid_on}
+use Rattle.gfx_player.proofs.Playing.{told_beside}
+use Rattle.gfx_player.proofs.Walking.{fed_begins, frames_with, history_more, read_alike, refused_stops, replayed_alike}
 use Rattle.gfx_trim.specs.declared.cutter.Cutter.{Cutter}
 use Rattle.gfx_trim.specs.declared.phase.Phase.{Phase}
 use Rattle.gfx_trim.specs.declared.phase.Phase.TheVariants as phase
-use Rattle.gfx_trim.specs.Cutters.{IsAfter, Ends, GoesOn, number_by, next_frame_of, text_by}
+use Rattle.gfx_trim.specs.Cutters.{IsAfter, Ends, GoesOn, number_by, text_by}
 use Rattle.gfx_trim.specs.Keeps.{Keeps}
 use Rattle.gfx_trim.specs.Numbers.{IsOutside}
 use Rattle.gfx_trim.specs.Phases.{IsPhase}
-use Rattle.gfx_trim.specs.Trims.{Cutting, IsBadAt, IsBehindLast, IsCut, IsDone, IsWithout, trimmed}
-use Rattle.gfx_trim.specs.Written.{has_effect, valid_from, valid_in, written, written_of}
-use Rattle.gfx_io.proofs.Appending.{appends_none, nothing_written, part_of, whole_part}
+use Rattle.gfx_trim.specs.Trims.{Answers, IsBehindLast, IsDone, IsWithout, KeepsIfDone, trimmed}
+use Rattle.gfx_trim.specs.Written.{has_effect, written, written_of}
 use Rattle.gfx_trim.proofs.Cutting.{quiet_reaches}
 use Rattle.gfx_trim.proofs.Growing.{grown, text_some, text_whole}
-use Rattle.gfx_trim.proofs.Judging.{valid_bad, valid_none, valid_on}
 use Rattle.gfx_trim.proofs.Keeping.{HasShown, file_shows, kept, trimmed_then}
 use Rattle.gfx_trim.proofs.Numbers.{inside, outside}
 use Rattle.gfx_trim.proofs.Phases.{history_along}
-use Rattle.gfx_trim.proofs.Taking.{frames_with, history_more}
 
 -- ---- what is written of a file, by the blocks that were read
 
-text_all : (first last : ℕ) (fed : List Whole) (stage : Stage) (all rest : List ℕ) → IsFed fed stage all rest → is_valid (history_of fed) ≡ true →
-    written first last all ≡ written_of (minor_of all) first last (fed ++ valid_from (history_of fed) (coming stage rest).items)
-text_all first last fed stage all rest f valid =
-    ap (λ (b : Blocks). written_of (minor_of all) first last (valid_from [] b.items)) (fed_blocks fed stage all rest f)
-    ∙ ap (written_of (minor_of all) first last) (valid_on fed (coming stage rest).items [] valid)
+text_none : (m first last : ℕ) → written_of m first last [] ≡ []
+unfolding written_of cut_before
+text_none m first last = by (is_first first [])
+  where
+    text : Cut → List ℕ
+    text c = if has_effect (range_from last c) then trimmed_by m first last c else []
 
-text_so : (first last : ℕ) (fed : List Whole) (stage : Stage) (all rest : List ℕ) → IsFed fed stage all rest → is_valid (history_of fed) ≡ true → valid_from (history_of fed) (coming stage rest).items ≡ [] →
-    written first last all ≡ written_of (minor_of all) first last fed
-text_so first last fed stage all rest f valid none =
-    text_all first last fed stage all rest f valid ∙ ap (λ (ws : List Whole). written_of (minor_of all) first last (fed ++ ws)) none
-    ∙ ap (written_of (minor_of all) first last) (append-nil fed)
+    by : (b : Bool) → text (cond {A = Cut} b (record { front = []; rest = [] }) (record { front = []; rest = [] })) ≡ []
+    by true = refl
+    by false = refl
 
--- no block follows
-text_end : (first last : ℕ) (fed : List Whole) (stage : Stage) (all rest : List ℕ) (end : End) → IsFed fed stage all rest → is_valid (history_of fed) ≡ true → coming stage rest ≡ only_end end →
-    written first last all ≡ written_of (minor_of all) first last fed
-text_end first last fed stage all rest end f valid is =
-    text_so first last fed stage all rest f valid (ap (λ (b : Blocks). valid_from (history_of fed) b.items) is ∙ valid_none (history_of fed))
-
--- the next block has a rule fault
-text_bad : (first last : ℕ) (fed : List Whole) (stage : Stage) (all rest : List ℕ) (w : Whole) (later : Blocks) (fault : Fault) → IsFed fed stage all rest → is_valid (history_of fed) ≡ true →
-    coming stage rest ≡ with_item w later → content_fault (history_of fed) w.content ≡ Some fault → written first last all ≡ written_of (minor_of all) first last fed
-text_bad first last fed stage all rest w later fault f valid is broken =
-    text_so first last fed stage all rest f valid
-    (ap (λ (b : Blocks). valid_from (history_of fed) b.items) is ∙ valid_bad (history_of fed) w later.items fault broken)
+text_all : (first last : ℕ) (fed : List Whole) (all : List ℕ) (b : BeginsWith fed all) → is_valid (history_of fed) ≡ true →
+    written first last all ≡ written_of (minor_of all) first last (fed ++ valid_from (history_of fed) b.later.items)
+text_all first last fed all b valid =
+    ap (λ (b : Blocks). written_of (minor_of all) first last (valid_from [] b.items)) b.is
+    ∙ ap (written_of (minor_of all) first last) (valid_on fed b.later.items [] valid)
 
 -- a front of what is written of blocks without a fault is one of what is written of the file
-pub front_of : (first last : ℕ) (fed : List Whole) (stage : Stage) (all rest : List ℕ) (before after : Option (List ℕ)) → IsFed fed stage all rest → is_valid (history_of fed) ≡ true →
+front_of : (first last : ℕ) (fed : List Whole) (all : List ℕ) (before after : Option (List ℕ)) → BeginsWith fed all → is_valid (history_of fed) ≡ true →
     AppendsPart before after (written_of (minor_of all) first last fed) → AppendsPart before after (written first last all)
-front_of first last fed stage all rest before after f valid part =
-    let g = grown (minor_of all) first last fed (valid_from (history_of fed) (coming stage rest).items) in
-    subst (AppendsPart before after) (sym (text_all first last fed stage all rest f valid ∙ g.is))
-    (part_of before after (written_of (minor_of all) first last fed) g.tail part)
+front_of first last fed all before after b valid part =
+    let g = grown (minor_of all) first last fed (valid_from (history_of fed) b.later.items) in
+    subst (AppendsPart before after) (sym (text_all first last fed all b valid ∙ g.is)) (part_of before after (written_of (minor_of all) first last fed) g.tail part)
+
+-- of no blocks nothing is written in either version
+in_version : (first last m n : ℕ) (fed : List Whole) → (fed ≡ []) ⊎ (m ≡ n) → written_of m first last fed ≡ written_of n first last fed
+in_version first last m n fed (inl none) =
+    ap (written_of m first last) none ∙ text_none m first last ∙ sym (text_none n first last) ∙ ap (written_of n first last) (sym none)
+in_version first last m n fed (inr same) = ap (λ m. written_of m first last fed) same
 
 -- ---- a range that is not whole in the blocks that were read
 
@@ -126,246 +123,219 @@ outside_phase phase.Waiting first last kept ws valid ordered g =
     outside_going first last ws valid ordered g.there (quiet_reaches (last + 1) (boundary first ws).rest (history_to (boundary first ws)) g.quiet)
 outside_phase phase.Writing first last kept ws valid ordered g = outside_going first last ws valid ordered g.there g.going
 
+none_outside : (first last : ℕ) → first ≤ last → IsOutside first last []
+unfolding frames
+none_outside first last ordered = outside first last [] refl ordered (λ one two. absurd cc)
+
 -- ---- a file that is being cut
 
--- what was read has no fault, and the range is not whole in it
-record IsPart (first last : ℕ) (all : List ℕ) (before after : Option (List ℕ)) (fed : List Whole) : Type 0 where
-  valid : is_valid (history_of fed) ≡ true
-  outside : IsOutside first last (history_of fed)
-  text : Appends before after (written_of (minor_of all) first last fed)
+-- blocks of a file were read and taken, none of them the last of the range, and what is to be written of them was
+pub record Cutting (first last : ℕ) (p : Player) (c : Cutter) (fed : List Whole) (file left before after : Option (List ℕ)) : Type 0 where
+  pub stands : IsAfter c p fed
+  pub read : HasRead p fed file left
+  pub first_is : c.first ≡ first
+  pub last_is : c.last ≡ last
+  pub minor_is : c.minor ≡ p.minor
+  pub text : Appends before after (text_by c fed)
 
--- the text in the words of the file
-text_is : (first last : ℕ) (all : List ℕ) (c : Cutter) (fed : List Whole) → c.first ≡ first → c.last ≡ last → c.minor ≡ minor_of all → text_by c fed ≡ written_of (minor_of all) first last fed
-text_is first last all c fed first_is last_is minor_is =
-    ap (λ m. written_of m c.first c.last fed) minor_is ∙ ap (λ a. written_of (minor_of all) a c.last fed) first_is ∙ ap (λ b. written_of (minor_of all) first b fed) last_is
-
-part_read : (first last : ℕ) (all : List ℕ) (stage : Stage) (c : Cutter) (rest : List ℕ) (before after : Option (List ℕ)) → first ≤ last → (p : Cutting first last all stage c rest before after) →
-    IsPart first last all before after p.fed
-part_read first last all stage c rest before after ordered p =
-    let valid = (p.stands).replayed.replays.stands.valid in
-    let low : c.first ≤ c.last = omega (arith, ordered, p.first_is, p.last_is) in
-    let far = outside_phase c.phase c.first c.last c.kept.items p.fed valid low (p.stands).phase in
-    record {
-      valid = valid;
-      outside = subst (λ a. IsOutside a last (history_of p.fed)) p.first_is (subst (λ b. IsOutside c.first b (history_of p.fed)) p.last_is far);
-      text = subst (Appends before after) (text_is first last all c p.fed p.first_is p.last_is p.minor_is) p.text;
-    }
-
--- the file ends at a bad block
-bad_so : (first last : ℕ) (all : List ℕ) (before after : Option (List ℕ)) (fed : List Whole) (fault : Fault) (block offset : ℕ) → IsPart first last all before after fed →
-    judged_of (blocks_of all) ≡ record { history = history_of fed; end = bad fault block offset } → written first last all ≡ written_of (minor_of all) first last fed → IsBadAt first last before after fault block offset all
-bad_so first last all before after fed fault block offset p is text = record {
-  end = ap (λ (j : Judged). j.end) is;
-  outside = subst (λ (j : Judged). IsOutside first last j.history) (sym is) p.outside;
-  file = subst (Appends before after) (sym text) p.text;
+pub start : (first last : ℕ) (p : Player) (c : Cutter) (file left taken : Option (List ℕ)) → IsAfter c p [] → HasRead p [] file left → c.first ≡ first → c.last ≡ last → c.minor ≡ p.minor →
+    Cutting first last p c [] file left taken taken
+start first last p c file left taken stands read first_is last_is minor_is = record {
+  stands = stands;
+  read = read;
+  first_is = first_is;
+  last_is = last_is;
+  minor_is = minor_is;
+  text = subst (Appends taken taken) (sym (text_none c.minor c.first c.last)) (appends_none taken);
 }
 
-pub cut_bad : (first last : ℕ) (all : List ℕ) (stage : Stage) (c : Cutter) (rest : List ℕ) (before after : Option (List ℕ)) (fault : Fault) (block offset : ℕ) → first ≤ last →
-    Cutting first last all stage c rest before after → coming stage rest ≡ only_end (bad fault block offset) → IsBadAt first last before after fault block offset all
-cut_bad first last all stage c rest before after fault block offset ordered p is =
-    let r = part_read first last all stage c rest before after ordered p in
-    bad_so first last all before after p.fed fault block offset r (judged_end p.fed stage all rest (bad fault block offset) p.fits r.valid is)
-    (text_end first last p.fed stage all rest (bad fault block offset) p.fits r.valid is)
+-- the text in the words of the file
+text_is : (first last m : ℕ) (c : Cutter) (fed : List Whole) → c.first ≡ first → c.last ≡ last → c.minor ≡ m → text_by c fed ≡ written_of m first last fed
+text_is first last m c fed first_is last_is minor_is =
+    ap (λ m. written_of m c.first c.last fed) minor_is ∙ ap (λ a. written_of m a c.last fed) first_is ∙ ap (λ b. written_of m first b fed) last_is
 
-pub cut_rule : (first last : ℕ) (all : List ℕ) (stage : Stage) (c : Cutter) (rest : List ℕ) (before after : Option (List ℕ)) (w : Whole) (later : Blocks) (fault : Fault) → first ≤ last →
-    (p : Cutting first last all stage c rest before after) → coming stage rest ≡ with_item w later → content_fault (history_of p.fed) w.content ≡ Some fault → IsBadAt first last before after fault w.number w.offset all
-cut_rule first last all stage c rest before after w later fault ordered p is broken =
-    let r = part_read first last all stage c rest before after ordered p in
-    bad_so first last all before after p.fed fault w.number w.offset r (judged_fault p.fed w later stage all rest fault p.fits r.valid is broken)
-    (text_bad first last p.fed stage all rest w later fault p.fits r.valid is broken)
+valid_of : (first last : ℕ) (p : Player) (c : Cutter) (fed : List Whole) (file left before after : Option (List ℕ)) → Cutting first last p c fed file left before after → is_valid (history_of fed) ≡ true
+valid_of first last p c fed file left before after g = g.stands.replayed.replays.stands.valid
 
--- the file ends cleanly
-pub cut_clean : (first last : ℕ) (all : List ℕ) (stage : Stage) (c : Cutter) (rest left : List ℕ) (before after : Option (List ℕ)) → first ≤ last →
-    Cutting first last all stage c rest before after → coming stage rest ≡ only_end clean → left ≡ [] → IsWithout first last before after (unwrap_or c.seen (next_frame_of c)) (next_frame_of c - 1) all left
-cut_clean first last all stage c rest left before after ordered p is none =
-    let r = part_read first last all stage c rest before after ordered p in
-    let judged = judged_end p.fed stage all rest clean p.fits r.valid is in
-    let same : history_of p.fed ≡ history_in all = ap (λ (j : Judged). j.history) (sym judged) in
-    let next : next_frame_of c ≡ (view (history_of p.fed)).next_frame = ap (λ (v : View). v.next_frame) (p.stands).replayed.replays.stands.answers_same in
+outside_of : (first last : ℕ) (p : Player) (c : Cutter) (fed : List Whole) (file left before after : Option (List ℕ)) → first ≤ last → Cutting first last p c fed file left before after → IsOutside first last (history_of fed)
+outside_of first last p c fed file left before after ordered g =
+    let low : c.first ≤ c.last = omega (arith, ordered, g.first_is, g.last_is) in
+    let far = outside_phase c.phase c.first c.last c.kept.items fed (valid_of first last p c fed file left before after g) low g.stands.phase in
+    subst (λ a. IsOutside a last (history_of fed)) g.first_is (subst (λ b. IsOutside c.first b (history_of fed)) g.last_is far)
+
+-- one block more
+pub cut_more : (first last : ℕ) (p mid q : Player) (old new : Cutter) (fed : List Whole) (w : Whole) (file left rest before middle after : Option (List ℕ)) → Cutting first last p old fed file left before middle →
+    HasRead mid (fed ++ w ∷ []) file rest → mid.minor ≡ p.minor → IsReadAlike mid q → GoesOn old new q fed w → Appends before after (text_by old (fed ++ w ∷ [])) →
+    Cutting first last q new (fed ++ w ∷ []) file rest before after
+cut_more first last p mid q old new fed w file left rest before middle after c read minor same goes text =
+    let minor_is : new.minor ≡ old.minor = goes.range.minor in
     record {
-      end = ap (λ (j : Judged). j.end) judged;
-      outside = subst (IsOutside first last) same r.outside;
-      low_is = ap (λ n. unwrap_or c.seen n) next ∙ ap (λ o. unwrap_or o (view (history_of p.fed)).next_frame) (p.stands).replayed.seen ∙ ap first_in same;
-      high_is = ap (λ n. n - 1) next ∙ ap last_in same;
-      file = subst (Appends before after) (sym (text_end first last p.fed stage all rest clean p.fits r.valid is)) r.text;
-      read = none;
+      stands = goes.after;
+      read = read_alike mid q (fed ++ w ∷ []) file rest same read;
+      first_is = goes.range.first ∙ c.first_is;
+      last_is = goes.range.last ∙ c.last_is;
+      minor_is = minor_is ∙ c.minor_is ∙ sym minor ∙ sym same.minor;
+      text = subst (Appends before after)
+          (text_is old.first old.last old.minor old (fed ++ w ∷ []) refl refl refl ∙ sym (text_is old.first old.last old.minor new (fed ++ w ∷ []) goes.range.first goes.range.last minor_is)) text;
     }
 
--- a read failed
-given_text : (first last m : ℕ) (fed : List Whole) (all left : List ℕ) (g : IsGiven fed all left) → is_valid (history_of fed) ≡ true → written_of m first last (valid_in g.given) ≡ written_of m first last fed
-given_text first last m fed all left g valid =
-    ap (λ (b : Blocks). written_of m first last (valid_from [] b.items)) g.blocks
-    ∙ ap (λ (ws : List Whole). written_of m first last (valid_from [] ws)) (sym (append-nil fed))
-    ∙ ap (written_of m first last) (valid_on fed [] [] valid ∙ ap (λ (ws : List Whole). fed ++ ws) (valid_none (history_of fed)) ∙ append-nil fed)
+-- ---- no further block is taken
 
--- wherever it stops, a front was written
-pub cut_front : (first last : ℕ) (all : List ℕ) (stage : Stage) (c : Cutter) (rest : List ℕ) (before after : Option (List ℕ)) → first ≤ last →
-    Cutting first last all stage c rest before after → AppendsPart before after (written first last all)
-cut_front first last all stage c rest before after ordered p =
-    let r = part_read first last all stage c rest before after ordered p in
-    front_of first last p.fed stage all rest before after p.fits r.valid (whole_part before after (written_of (minor_of all) first last p.fed) r.text)
+-- an answer, and that the trimmed file keeps its frames
+abbrev pub Both : (first last : ℕ) → Option (List ℕ) → Option (List ℕ) → Result Unit PlayFault → List ℕ → List ℕ → Type 0
+Both first last before after r all left = Answers first last before after r all left × KeepsIfDone first last before after r all left
 
--- in what was given no block has a rule fault
-lawful_given : (fed : List Whole) (all left : List ℕ) (g : IsGiven fed all left) → is_valid (history_of fed) ≡ true → end_of g.given ≡ (blocks_of g.given).end
-lawful_given fed all left g valid = ap (λ (j : Judged). j.end) (judged_given fed all left g valid) ∙ ap (λ (b : Blocks). b.end) (sym g.blocks)
+failed : (first last : ℕ) (before after : Option (List ℕ)) (why : PlayFault) (all left : List ℕ) → Answers first last before after (Err why) all left → Both first last before after (Err why) all left
+failed first last before after why all left a = (a, λ fit. tt)
 
-pub cut_short : (first last : ℕ) (all : List ℕ) (stage : Stage) (c : Cutter) (rest left : List ℕ) (before after : Option (List ℕ)) → first ≤ last →
-    Cutting first last all stage c rest before after → GivesNone stage rest left → IsCut first last before after all left
-cut_short first last all stage c rest left before after ordered p none =
-    let r = part_read first last all stage c rest before after ordered p in
-    let (g, long) = stops_behind_blocks p.fed stage all rest left p.fits none in
-    let minor : minor_of all ≡ minor_of g.given = ap minor_of g.parts ∙ minor_of-append g.given left long in
+stops : (first last : ℕ) (fed : List Whole) (why : PlayFault) (before after : Option (List ℕ)) (all rest : List ℕ) → is_valid (history_of fed) ≡ true → IsOutside first last (history_of fed) →
+    Appends before after (written_of (minor_of all) first last fed) → StopsBehind fed why all rest → Answers first last before after (Err why) all rest
+stops first last fed (play.Bad fault block offset) before after all rest valid far text s = record {
+  end = s.stops.ends;
+  outside = subst (IsOutside first last) (sym s.stops.history) far;
+  file = subst (Appends before after) (sym (ap (written_of (minor_of all) first last) s.stops.blocks)) text;
+}
+stops first last fed (play.NoSuchFrame low high) before after all rest valid far text s = absurd s.stops
+stops first last fed play.ReadFault before after all rest valid far text s =
+    let g = s.stops in
+    let judged = judged_given fed all rest g valid in
     record {
       given = g.given;
       parts = g.parts;
-      lawful = lawful_given p.fed all left g r.valid;
-      outside = subst (λ (j : Judged). IsOutside first last j.history) (sym (judged_given p.fed all left g r.valid)) r.outside;
-      file = subst (Appends before after) (ap (λ m. written_of m first last p.fed) minor ∙ sym (given_text first last (minor_of g.given) p.fed all left g r.valid)) r.text;
-      front = cut_front first last all stage c rest before after ordered p;
+      cut = subst (λ ws. IsUnfinished ws g.given) (sym g.blocks) g.cut;
+      lawful = judged.ends;
+      outside = subst (IsOutside first last) (sym judged.history) far;
+      file = subst (Appends before after) (sym (ap (written_of (minor_of g.given) first last) judged.blocks ∙ in_version first last (minor_of g.given) (minor_of all) fed g.minor)) text;
+      front = front_of first last fed all before after s.begins valid (whole_part before after (written_of (minor_of all) first last fed) text);
     }
+stops first last fed play.SinkFault before after all rest valid far text s = absurd s.stops
+stops first last fed play.WantMemory before after all rest valid far text s =
+    front_of first last fed all before after s.begins valid (whole_part before after (written_of (minor_of all) first last fed) text)
 
--- also in a block without a fault
-pub cut_front_more : (first last : ℕ) (all : List ℕ) (old new : Stage) (c : Cutter) (left rest : List ℕ) (before middle after : Option (List ℕ)) (w : Whole) (p : Cutting first last all old c left before middle) →
-    ComesNext old new w → left ≡ w.bytes ++ rest → content_fault (history_of p.fed) w.content ≡ None → AppendsPart before after (text_by c (p.fed ++ w ∷ [])) → AppendsPart before after (written first last all)
-cut_front_more first last all old new c left rest before middle after w p comes took fine part =
-    front_of first last (p.fed ++ w ∷ []) new all rest before after (fed_more p.fed w old new all left rest p.fits comes took)
-    (ap is_valid (history_more p.fed w) ∙ valid_more (history_of p.fed) w.content (p.stands).replayed.replays.stands.valid fine)
-    (subst (AppendsPart before after) (text_is first last all c (p.fed ++ w ∷ []) p.first_is p.last_is p.minor_is) part)
+-- the header
+pub open_fails : (first last : ℕ) (why : PlayFault) (file rest taken : Option (List ℕ)) → first ≤ last → IfTold file rest (StopsBehind [] why) → IfTold file rest (Both first last taken taken (Err why))
+open_fails first last why file rest taken ordered told =
+    told_if file rest (StopsBehind [] why) (Both first last taken taken (Err why)) told
+    (λ all rest s. failed first last taken taken why all rest
+    (stops first last [] why taken taken all rest refl (none_outside first last ordered) (subst (Appends taken taken) (sym (text_none (minor_of all) first last)) (appends_none taken)) s))
 
--- ---- one block more
+-- the next block
+pub next_fails : (first last : ℕ) (p : Player) (c : Cutter) (fed : List Whole) (why : PlayFault) (file left rest before after : Option (List ℕ)) → first ≤ last → Cutting first last p c fed file left before after →
+    IfTold file rest (StopsBehind fed why) → IfTold file rest (Both first last before after (Err why))
+next_fails first last p c fed why file left rest before after ordered g told =
+    told_beside file left rest _ (StopsBehind fed why) (Both first last before after (Err why)) g.read.told told
+    (λ all left rest was s. failed first last before after why all rest
+    (stops first last fed why before after all rest (valid_of first last p c fed file _ before after g) (outside_of first last p c fed file _ before after ordered g)
+    (subst (Appends before after) (text_is first last (minor_of all) c fed g.first_is g.last_is (g.minor_is ∙ was.1)) g.text) s))
 
-pub cut_more : (first last : ℕ) (all : List ℕ) (old new : Stage) (was now : Cutter) (left rest : List ℕ) (before middle after : Option (List ℕ)) (w : Whole) (p : Cutting first last all old was left before middle) →
-    ComesNext old new w → left ≡ w.bytes ++ rest → GoesOn was now p.fed w → Appends before after (text_by was (p.fed ++ w ∷ [])) → Cutting first last all new now rest before after
-cut_more first last all old new was now left rest before middle after w p comes took g text =
-    let first_is = g.range.first ∙ p.first_is in
-    let last_is = g.range.last ∙ p.last_is in
-    let minor_is = g.range.minor ∙ p.minor_is in
-    record {
-      fed = p.fed ++ w ∷ [];
-      fits = fed_more p.fed w old new all left rest p.fits comes took;
-      stands = g.after;
-      first_is = first_is;
-      last_is = last_is;
-      minor_is = minor_is;
-      text = subst (Appends before after)
-          (text_is first last all was (p.fed ++ w ∷ []) p.first_is p.last_is p.minor_is ∙ sym (text_is first last all now (p.fed ++ w ∷ []) first_is last_is minor_is)) text;
-    }
+-- a front of a block without a fault was written
+front_more : (first last : ℕ) (p mid : Player) (c : Cutter) (fed : List Whole) (w : Whole) (file left rest before middle after : Option (List ℕ)) → Cutting first last p c fed file left before middle →
+    HasRead mid (fed ++ w ∷ []) file rest → mid.minor ≡ p.minor → content_fault (history_of fed) w.content ≡ None → AppendsPart before after (text_by c (fed ++ w ∷ [])) →
+    IfTold file rest (λ all rest. AppendsPart before after (written first last all))
+front_more first last p mid c fed w file left rest before middle after g read minor fine part =
+    told_if file rest _ (λ all rest. AppendsPart before after (written first last all)) read.told
+    (λ all rest was. front_of first last (fed ++ w ∷ []) all before after (fed_begins (fed ++ w ∷ []) mid.decoder all rest was.0)
+    (ap is_valid (history_more fed w) ∙ valid_more (history_of fed) w.content g.stands.replayed.replays.stands.valid fine)
+    (subst (AppendsPart before after) (text_is first last (minor_of all) c (fed ++ w ∷ []) g.first_is g.last_is (g.minor_is ∙ sym minor ∙ was.1)) part))
+
+-- a block that is not taken, or not written whole
+pub take_fails : (first last : ℕ) (p mid : Player) (c : Cutter) (fed : List Whole) (w : Whole) (why : PlayFault) (file left rest before middle after : Option (List ℕ)) → first ≤ last →
+    Cutting first last p c fed file left before middle → HasRead mid (fed ++ w ∷ []) file rest → mid.minor ≡ p.minor → Refuses (history_of fed) w why →
+    ((fault : Fault) (block offset : ℕ) → why ≡ play.Bad fault block offset → after ≡ middle) → AppendsPart before after (text_by c (fed ++ w ∷ [])) → IfTold file rest (Both first last before after (Err why))
+take_fails first last p mid c fed w (play.Bad fault block offset) file left rest before middle after ordered g read minor refuses same part =
+    next_fails first last p c fed (play.Bad fault block offset) file left rest before after ordered (record {
+      stands = g.stands;
+      read = g.read;
+      first_is = g.first_is;
+      last_is = g.last_is;
+      minor_is = g.minor_is;
+      text = subst (λ t. Appends before t (text_by c fed)) (sym (same fault block offset refl)) g.text;
+    })
+    (refused_stops p mid fed w (play.Bad fault block offset) file rest g.stands.replayed read tt refuses)
+take_fails first last p mid c fed w (play.NoSuchFrame low high) file left rest before middle after ordered g read minor refuses same part = absurd refuses
+take_fails first last p mid c fed w play.ReadFault file left rest before middle after ordered g read minor refuses same part = absurd refuses
+take_fails first last p mid c fed w play.SinkFault file left rest before middle after ordered g read minor refuses same part =
+    told_if file rest _ (Both first last before after (Err play.SinkFault)) (front_more first last p mid c fed w file left rest before middle after g read minor refuses part)
+    (λ all rest part. failed first last before after play.SinkFault all rest part)
+take_fails first last p mid c fed w play.WantMemory file left rest before middle after ordered g read minor refuses same part =
+    told_if file rest _ (Both first last before after (Err play.WantMemory)) (front_more first last p mid c fed w file left rest before middle after g read minor refuses part)
+    (λ all rest part. failed first last before after play.WantMemory all rest part)
+
+-- the clean end of the file
+pub file_ends : (first last : ℕ) (p q : Player) (c : Cutter) (fed : List Whole) (why : PlayFault) (file left rest before after : Option (List ℕ)) → first ≤ last → Cutting first last p c fed file left before after →
+    IsReplayedAlike p q → IfTold file rest (λ all rest. EndsBehind fed clean all × (rest ≡ [])) → why ≡ play.NoSuchFrame (first_frame_of q) (next_frame_of q - 1) → IfTold file rest (Both first last before after (Err why))
+file_ends first last p q c fed why file left rest before after ordered g same told is =
+    let done = replayed_alike p q fed same g.stands.replayed in
+    let next : next_frame_of q ≡ (view (history_of fed)).next_frame = ap (λ (v : View). v.next_frame) done.replays.stands.answers_same in
+    subst (λ e. IfTold file rest (Both first last before after (Err e))) (sym is)
+    (told_beside file left rest _ (λ all rest. EndsBehind fed clean all × (rest ≡ [])) (Both first last before after (Err (play.NoSuchFrame (first_frame_of q) (next_frame_of q - 1)))) g.read.told told
+    (λ all left rest was end. failed first last before after (play.NoSuchFrame (first_frame_of q) (next_frame_of q - 1)) all rest (record {
+      end = end.0.ends;
+      outside = subst (IsOutside first last) (sym end.0.history) (outside_of first last p c fed file _ before after ordered g);
+      low_is = ap (λ n. unwrap_or q.first n) next ∙ ap (λ o. unwrap_or o (view (history_of fed)).next_frame) done.first ∙ ap first_in (sym end.0.history);
+      high_is = ap (λ n. n - 1) next ∙ ap last_in (sym end.0.history);
+      file = subst (Appends before after)
+          (text_is first last (minor_of all) c fed g.first_is g.last_is (g.minor_is ∙ was.1) ∙ sym (ap (written_of (minor_of all) first last) end.0.blocks)) g.text;
+      read = end.1;
+    })))
 
 -- ---- the last block of the range
 
 -- a present shows its frame
 shown_by : (n : ℕ) (fed : List Whole) (w : Whole) → number_by (history_of fed) w.content ≡ Some n → has_frame n (frames (history_of (fed ++ w ∷ []))) ≡ true
-shown_by n fed w is = ap (λ h. has_frame n (frames h)) (history_more fed w) ∙ by _ refl is
+shown_by n fed w is = by _ refl is
   where
-    by : (o : Option Frame) → frame_by (history_of fed) w.content ≡ o → option_map (λ (f : Frame). f.number) o ≡ Some n → has_frame n (frames (content_onto w.content (history_of fed))) ≡ true
+    by : (o : Option Frame) → frame_by (history_of fed) w.content ≡ o → option_map (λ (f : Frame). f.number) o ≡ Some n → has_frame n (frames (history_of (fed ++ w ∷ []))) ≡ true
     by None none same = absurd cc
     by (Some f) there same =
         let number : f.number ≡ n = cc in
-        ap (has_frame n) (frames_with (history_of fed) w.content (Some f) there)
+        ap (has_frame n) (frames_with fed w (Some f) there)
         ∙ list_any-append (λ (f : Frame). f.number == n) (frames (history_of fed)) (f ∷ [])
         ∙ or_right (has_frame n (frames (history_of fed))) ((f.number == n) || false) (or_left (f.number == n) false (eq-eqb f.number n number))
 
 has_shown : (first last : ℕ) (fed : List Whole) (w : Whole) → Ends first last fed w → HasShown first last (fed ++ w ∷ [])
 has_shown first last fed w e = record { valid = e.valid; there = e.there; reached = e.reached; shown = shown_by last fed w e.shows }
 
-ends_as : (first last : ℕ) (c : Cutter) (fed : List Whole) (w : Whole) → c.first ≡ first → c.last ≡ last → Ends c.first c.last fed w → Ends first last fed w
-ends_as first last c fed w first_is last_is e = subst (λ a. Ends a last fed w) first_is (subst (λ b. Ends c.first b fed w) last_is e)
-
--- the trimmed file of the whole file
-done_text : (first last : ℕ) (all : List ℕ) (stage : Stage) (rest : List ℕ) (c : Cutter) (fed : List Whole) (w : Whole) → c.first ≡ first → c.last ≡ last → c.minor ≡ minor_of all →
-    Ends first last fed w → IsFed (fed ++ w ∷ []) stage all rest → text_by c (fed ++ w ∷ []) ≡ trimmed first last all
-done_text first last all stage rest c fed w first_is last_is minor_is e f =
-    text_is first last all c (fed ++ w ∷ []) first_is last_is minor_is ∙ text_some (minor_of all) first last (fed ++ w ∷ []) e.some
-    ∙ sym (trimmed_then first last (fed ++ w ∷ []) stage all rest (has_shown first last fed w e) f)
-
--- and it is all that is written of the file
-whole_text : (first last : ℕ) (fed : List Whole) (w : Whole) (stage : Stage) (all rest : List ℕ) → Ends first last fed w → IsFed (fed ++ w ∷ []) stage all rest → written first last all ≡ trimmed first last all
-whole_text first last fed w stage all rest e f =
-    text_all first last (fed ++ w ∷ []) stage all rest f e.valid
-    ∙ text_whole (minor_of all) first last (fed ++ w ∷ []) (valid_from (history_of (fed ++ w ∷ [])) (coming stage rest).items) e.some e.reached
-    ∙ text_some (minor_of all) first last (fed ++ w ∷ []) e.some
-    ∙ sym (trimmed_then first last (fed ++ w ∷ []) stage all rest (has_shown first last fed w e) f)
-
 valid_history : (all : List ℕ) → is_valid (history_in all) ≡ true
 valid_history all = let p = prefix (blocks_of all).items [] (blocks_of all).end refl in ap is_valid p.history ∙ p.valid
 
-behind_last : (last : ℕ) (all : List ℕ) (stage : Stage) (rest : List ℕ) (fed : List Whole) (w : Whole) → IsFed (fed ++ w ∷ []) stage all rest → number_by (history_of fed) w.content ≡ Some last → IsBehindLast last all rest
-behind_last last all stage rest fed w f shows = record {
+behind_last : (last : ℕ) (p : Player) (all rest : List ℕ) (fed : List Whole) (w : Whole) → IsFed (fed ++ w ∷ []) p.decoder all rest → number_by (history_of fed) w.content ≡ Some last → IsBehindLast last all rest
+behind_last last p all rest fed w f shows = record {
   head = f.head;
   header = f.header;
   fed = fed;
   block = w;
-  later = (coming stage rest).items;
-  blocks = ap (λ (b : Blocks). b.items) (fed_blocks (fed ++ w ∷ []) stage all rest f) ∙ append_assoc fed (w ∷ []) (coming stage rest).items;
+  later = (coming p.decoder rest).items;
+  blocks = ap (λ (b : Blocks). b.items) (fed_blocks (fed ++ w ∷ []) p.decoder all rest f) ∙ append_assoc fed (w ∷ []) (coming p.decoder rest).items;
   parts = f.parts;
   shows = shows;
 }
 
-pub cut_done : (first last : ℕ) (all : List ℕ) (old new : Stage) (c : Cutter) (left rest : List ℕ) (before middle after : Option (List ℕ)) (w : Whole) → first ≤ last → (p : Cutting first last all old c left before middle) →
-    ComesNext old new w → left ≡ w.bytes ++ rest → Ends c.first c.last p.fed w → Appends before after (text_by c (p.fed ++ w ∷ [])) →
-    IsDone first last before after all rest × (AreBytes all → Keeps first last before after all)
-cut_done first last all old new c left rest before middle after w ordered p comes took ends text =
-    let e = ends_as first last c p.fed w p.first_is p.last_is ends in
-    let h = has_shown first last p.fed w e in
-    let f = fed_more p.fed w old new all left rest p.fits comes took in
-    let file = subst (Appends before after) (done_text first last all new rest c p.fed w p.first_is p.last_is p.minor_is e f) text in (
+cut_whole : (first last : ℕ) (p : Player) (all rest : List ℕ) (fed : List Whole) (w : Whole) (before after : Option (List ℕ)) → first ≤ last → Ends first last fed w → IsFed (fed ++ w ∷ []) p.decoder all rest →
+    Appends before after (written_of (minor_of all) first last (fed ++ w ∷ [])) → Both first last before after (Ok tt) all rest
+cut_whole first last p all rest fed w before after ordered e f text =
+    let b = fed_begins (fed ++ w ∷ []) p.decoder all rest f in
+    let h = has_shown first last fed w e in
+    let is : written_of (minor_of all) first last (fed ++ w ∷ []) ≡ trimmed first last all =
+    text_some (minor_of all) first last (fed ++ w ∷ []) e.some ∙ sym (trimmed_then first last (fed ++ w ∷ []) all h b) in
+    let file = subst (Appends before after) is text in (
       record {
         inside = inside first last (history_in all) (valid_history all)
-            (file_shows first (p.fed ++ w ∷ []) new all rest h.valid f (begun_is_shown first last (p.fed ++ w ∷ []) h.valid h.there ordered h.shown))
-            (file_shows last (p.fed ++ w ∷ []) new all rest h.valid f h.shown);
+            (file_shows first (fed ++ w ∷ []) all h.valid b (begun_is_shown first last (fed ++ w ∷ []) h.valid h.there ordered h.shown))
+            (file_shows last (fed ++ w ∷ []) all h.valid b h.shown);
         file = file;
-        all = whole_text first last p.fed w new all rest e f;
-        behind = behind_last last all new rest p.fed w f e.shows;
+        all = text_all first last (fed ++ w ∷ []) all b e.valid
+            ∙ text_whole (minor_of all) first last (fed ++ w ∷ []) (valid_from (history_of (fed ++ w ∷ [])) b.later.items) e.some e.reached
+            ∙ is;
+        behind = behind_last last p all rest fed w f e.shows;
       },
-      λ fit. kept first last (p.fed ++ w ∷ []) new all rest before after ordered h f fit file,
+      λ fit. kept first last (fed ++ w ∷ []) all before after ordered h b fit file,
     )
 
--- ---- before the first block
-
-text_none : (m first last : ℕ) → written_of m first last [] ≡ []
-unfolding written_of cut_before
-text_none m first last = by (is_first first [])
-  where
-    text : Cut → List ℕ
-    text c = if has_effect (range_from last c) then trimmed_by m first last c else []
-
-    by : (b : Bool) → text (cond {A = Cut} b (record { front = []; rest = [] }) (record { front = []; rest = [] })) ≡ []
-    by true = refl
-    by false = refl
-
-none_outside : (first last : ℕ) → first ≤ last → IsOutside first last []
-unfolding frames
-none_outside first last ordered = outside first last [] refl ordered (λ one two. absurd cc)
-
-pub start : (first last : ℕ) (header : Header) (c : Cutter) (all rest bytes : List ℕ) (taken : Option (List ℕ)) → GivesHeader (Ok header) all rest → IsHeader header bytes → all ≡ bytes ++ rest →
-    IsAfter c [] → c.first ≡ first → c.last ≡ last → c.minor ≡ header.minor → Cutting first last all (At header.minor (start_of header)) c rest taken taken
-start first last header c all rest bytes taken gives is parts stands first_is last_is minor_is = record {
-  fed = [];
-  fits = fed_none header all rest bytes is parts;
-  stands = stands;
-  first_is = first_is;
-  last_is = last_is;
-  minor_is = minor_is ∙ gives.1;
-  text = subst (Appends taken taken) (sym (text_none c.minor c.first c.last)) (appends_none taken);
-}
-
--- the header is bad
-pub header_bad : (first last : ℕ) (all : List ℕ) (taken : Option (List ℕ)) (fault : Fault) (block offset : ℕ) → first ≤ last → blocks_of all ≡ only_end (bad fault block offset) →
-    IsBadAt first last taken taken fault block offset all
-unfolding judge
-header_bad first last all taken fault block offset ordered is = record {
-  end = ap (λ (b : Blocks). (judged_of b).end) is;
-  outside = subst (λ (b : Blocks). IsOutside first last (judged_of b).history) (sym is) (none_outside first last ordered);
-  file = subst (Appends taken taken) (sym (ap (λ (b : Blocks). written_of (minor_of all) first last (valid_from [] b.items)) is ∙ ap (written_of (minor_of all) first last) (valid_none []) ∙ text_none (minor_of all) first last)) (appends_none taken);
-}
-
--- it isn't whole in what was read
-pub header_short : (first last : ℕ) (all left : List ℕ) (taken : Option (List ℕ)) → first ≤ last → IsGiven [] all left → IsCut first last taken taken all left
-header_short first last all left taken ordered g = record {
-  given = g.given;
-  parts = g.parts;
-  lawful = lawful_given [] all left g refl;
-  outside = subst (λ (j : Judged). IsOutside first last j.history) (sym (judged_given [] all left g refl)) (none_outside first last ordered);
-  file = subst (Appends taken taken) (sym (given_text first last (minor_of g.given) [] all left g refl ∙ text_none (minor_of g.given) first last)) (appends_none taken);
-  front = nothing_written taken (written first last all);
-}
+pub cut_done : (first last : ℕ) (p mid : Player) (c : Cutter) (fed : List Whole) (w : Whole) (file left rest before middle after : Option (List ℕ)) → first ≤ last → Cutting first last p c fed file left before middle →
+    HasRead mid (fed ++ w ∷ []) file rest → mid.minor ≡ p.minor → Ends c.first c.last fed w → Appends before after (text_by c (fed ++ w ∷ [])) → IfTold file rest (Both first last before after (Ok tt))
+cut_done first last p mid c fed w file left rest before middle after ordered g read minor ends text =
+    let e : Ends first last fed w = subst (λ a. Ends a last fed w) g.first_is (subst (λ b. Ends c.first b fed w) g.last_is ends) in
+    told_if file rest _ (Both first last before after (Ok tt)) read.told
+    (λ all rest was. cut_whole first last mid all rest fed w before after ordered e was.0
+    (subst (Appends before after) (text_is first last (minor_of all) c (fed ++ w ∷ []) g.first_is g.last_is (g.minor_is ∙ sym minor ∙ was.1)) text))

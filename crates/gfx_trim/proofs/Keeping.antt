@@ -19,12 +19,10 @@ use Rattle.gfx_trim_law.specs.Law.{HasRange}
 use Rattle.gfx_trim_law.proofs.Cuts.{events_in}
 use Rattle.gfx_trim_law.proofs.Each.{begun_is_shown}
 use Rattle.gfx_trim_law.proofs.Keeps.{trimming_keeps_frames}
-use Rattle.gfx_decode.specs.Stage.{Stage}
-use Rattle.gfx_decode.specs.Decoding.{coming}
-use Rattle.gfx_decode.specs.Fed.{history_of, IsFed}
-use Rattle.gfx_decode.specs.Meanings.{end_of, frames_in}
-use Rattle.gfx_decode.proofs.Feeding.{fed_blocks}
-use Rattle.gfx_decode.proofs.Judging.{longer}
+use Rattle.gfx_player.specs.Ends.{BeginsWith}
+use Rattle.gfx_player.specs.Fed.{history_of}
+use Rattle.gfx_player.specs.Meanings.{end_of, frames_in}
+use Rattle.gfx_player.proofs.Judging.{longer}
 use Rattle.gfx_trim.specs.Keeps.{Keeps}
 
 -- blocks without a fault in which frame `first` begins and frame `last` is shown
@@ -35,16 +33,16 @@ pub record HasShown (first last : ℕ) (ws : List Whole) : Type 0 where
   pub shown : has_frame last (frames (history_of ws)) ≡ true
 
 -- what is behind these blocks does not matter for the trimmed file
-pub trimmed_then : (first last : ℕ) (ws : List Whole) (stage : Stage) (all rest : List ℕ) → HasShown first last ws → IsFed ws stage all rest →
+pub trimmed_then : (first last : ℕ) (ws : List Whole) (all : List ℕ) → HasShown first last ws → BeginsWith ws all →
     trimmed_by (minor_of all) first last (boundary first (blocks_of all).items) ≡ trimmed_by (minor_of all) first last (boundary first ws)
-trimmed_then first last ws stage all rest h f =
-    ap (λ (b : Blocks). trimmed_by (minor_of all) first last (boundary first b.items)) (fed_blocks ws stage all rest f)
-    ∙ trimmed_follows (minor_of all) first last ws (coming stage rest).items h.there h.reached
+trimmed_then first last ws all h b =
+    ap (λ (b : Blocks). trimmed_by (minor_of all) first last (boundary first b.items)) b.is
+    ∙ trimmed_follows (minor_of all) first last ws b.later.items h.there h.reached
 
 -- a frame that these blocks show is one of the file
-pub file_shows : (n : ℕ) (ws : List Whole) (stage : Stage) (all rest : List ℕ) → is_valid (history_of ws) ≡ true → IsFed ws stage all rest → has_frame n (frames (history_of ws)) ≡ true → has_frame n (frames_in all) ≡ true
-file_shows n ws stage all rest valid f has =
-    let l = longer ws stage all rest f valid in
+pub file_shows : (n : ℕ) (ws : List Whole) (all : List ℕ) → is_valid (history_of ws) ≡ true → BeginsWith ws all → has_frame n (frames (history_of ws)) ≡ true → has_frame n (frames_in all) ≡ true
+file_shows n ws all valid b has =
+    let l = longer ws all b valid in
     ap (has_frame n) l.is ∙ any_append (λ (f : Frame). f.number == n) (frames (history_of ws)) (frames_after (history_of ws) (events_in l.good)) has
 
 -- a frame up to `last` is among those up to `last`
@@ -60,11 +58,11 @@ up_to n last (f ∷ fs) low has = by (f.number == n) refl (nat_le f.number last)
     by false is false own has later = later has
 
 -- the whole file has the range
-pub has_range : (first last : ℕ) (ws : List Whole) (stage : Stage) (all rest : List ℕ) → first ≤ last → HasShown first last ws → IsFed ws stage all rest → AreBytes all →
+pub has_range : (first last : ℕ) (ws : List Whole) (all : List ℕ) → first ≤ last → HasShown first last ws → BeginsWith ws all → AreBytes all →
     HasRange first last all (frames_to last (frames_in all))
-has_range first last ws stage all rest ordered h f fit =
-    let last_there = file_shows last ws stage all rest h.valid f h.shown in
-    let first_there = file_shows first ws stage all rest h.valid f (begun_is_shown first last ws h.valid h.there ordered h.shown) in
+has_range first last ws all ordered h b fit =
+    let last_there = file_shows last ws all h.valid b h.shown in
+    let first_there = file_shows first ws all h.valid b (begun_is_shown first last ws h.valid h.there ordered h.shown) in
     record {
       bytes_fit = fit;
       ordered = ordered;
@@ -79,11 +77,11 @@ has_range first last ws stage all rest ordered h f fit =
     }
 
 -- what was taken is the trimmed file, which keeps the frames
-pub kept : (first last : ℕ) (ws : List Whole) (stage : Stage) (all rest : List ℕ) (before after : Option (List ℕ)) → first ≤ last → HasShown first last ws → IsFed ws stage all rest → AreBytes all →
+pub kept : (first last : ℕ) (ws : List Whole) (all : List ℕ) (before after : Option (List ℕ)) → first ≤ last → HasShown first last ws → BeginsWith ws all → AreBytes all →
     Appends before after (trimmed_by (minor_of all) first last (boundary first (blocks_of all).items)) → Keeps first last before after all
-kept first last ws stage all rest before after ordered h f fit took =
+kept first last ws all before after ordered h b fit took =
     let out = trimmed_by (minor_of all) first last (boundary first (blocks_of all).items) in
-    let range = has_range first last ws stage all rest ordered h f fit in
+    let range = has_range first last ws all ordered h b fit in
     let is : IsTrimmed first last all out = record { blocks = (blocks_of all).items; end = (blocks_of all).end; are = (blocks_are_computed all fit).0; same = refl } in
     record {
       out = out;

@@ -1,6 +1,5 @@
 pub mod Cutting
 pub mod Growing
-pub mod Judging
 pub mod Keeping
 pub mod Numbers
 pub mod Fronts
@@ -9,4 +8,3 @@ pub mod Steps
 pub mod Stored
 pub mod Taking
 pub mod Files
-pub mod Answering

@@ -13,7 +13,7 @@ use Rattle.gfx_model.specs.Meaning.{has_frame}
 use Rattle.gfx_model.proofs.Lists.{all_along}
 use Rattle.gfx_trim_law.proofs.Clock.{quiet_event, present_event, ended, some_after}
 use Rattle.gfx_trim_law.proofs.Numbers.{numbered, last_parts, late_begin, number_of, IsShownBefore}
-use Rattle.gfx_decode.specs.Meanings.{first_of, first_in}
+use Rattle.gfx_player.specs.Meanings.{first_of, first_in}
 use Rattle.gfx_trim.specs.Numbers.{IsInside, IsOutside}
 
 -- ---- no number is missing

@@ -1,7 +1,7 @@
 -- Ranges of frames, in a history or not.
 use Rattle.std.specs.Prelude.{◌<◌, ◌≤◌, ◌⊎◌, ℕ, List}
 use Rattle.gfx_model.specs.Events.{Event}
-use Rattle.gfx_decode.specs.Meanings.{first_in, last_in}
+use Rattle.gfx_player.specs.Meanings.{first_in, last_in}
 
 -- these frames are in a history
 pub record IsInside (first last : ℕ) (h : List Event) : Type 0 where

@@ -9,13 +9,11 @@ use Rattle.gfx_model.specs.Trimmed.{boundary, trimmed_by}
 use Rattle.gfx_grammar.specs.Framing.{IsHeader}
 use Rattle.gfx_grammar.specs.Reads.{AreBytes}
 use Rattle.gfx_grammar.specs.Splitting.{blocks_of}
-use Rattle.gfx_decode.specs.Stage.{Stage}
-use Rattle.gfx_decode.specs.Fed.{file_with, history_of, IsFed}
-use Rattle.gfx_decode.specs.Meanings.{end_of, history_in, first_in, last_in}
-use Rattle.gfx_trim.specs.declared.cutter.Cutter.{Cutter}
-use Rattle.gfx_trim.specs.declared.fault.TrimFault.{TrimFault}
-use Rattle.gfx_trim.specs.declared.fault.TrimFault.TheVariants as trim
-use Rattle.gfx_trim.specs.Cutters.{IsAfter, number_by, text_by}
+use Rattle.gfx_player.specs.declared.fault.PlayFault.{PlayFault}
+use Rattle.gfx_player.specs.declared.fault.PlayFault.TheVariants as play
+use Rattle.gfx_player.specs.Fed.{IsUnfinished, file_with, history_of}
+use Rattle.gfx_player.specs.Meanings.{end_of, history_in, first_in, last_in}
+use Rattle.gfx_trim.specs.Cutters.{number_by}
 use Rattle.gfx_trim.specs.Keeps.{Keeps}
 use Rattle.gfx_trim.specs.Numbers.{IsInside, IsOutside}
 use Rattle.gfx_trim.specs.Written.{written}
@@ -58,10 +56,11 @@ pub record IsWithout (first last : ℕ) (before after : Option (List ℕ)) (low 
   pub file : Appends before after (written first last bytes)
   pub read : left ≡ []
 
--- a read failed behind these bytes, before any rule fault and before the range was whole
+-- A read failed behind these bytes. Neither a bad block nor the last frame of the range stands in them, and the next block isn't whole.
 pub record IsCut (first last : ℕ) (before after : Option (List ℕ)) (bytes left : List ℕ) : Type 0 where
   pub given : List ℕ
   pub parts : bytes ≡ given ++ left
+  pub cut : IsUnfinished (blocks_of given).items given
   pub lawful : end_of given ≡ (blocks_of given).end
   pub outside : IsOutside first last (history_in given)
   pub file : Appends before after (written first last given)
@@ -69,24 +68,14 @@ pub record IsCut (first last : ℕ) (before after : Option (List ℕ)) (bytes le
   pub front : AppendsPart before after (written first last bytes)
 
 -- what was written, by the answer: the trimmed file, what stands of it before the end of the file, or a front of that
-abbrev pub Answers : (first last : ℕ) → Option (List ℕ) → Option (List ℕ) → Result Unit TrimFault → List ℕ → List ℕ → Type 0
+abbrev pub Answers : (first last : ℕ) → Option (List ℕ) → Option (List ℕ) → Result Unit PlayFault → List ℕ → List ℕ → Type 0
 Answers first last before after (Ok done) bytes left = IsDone first last before after bytes left
-Answers first last before after (Err (trim.Bad fault block offset)) bytes left = IsBadAt first last before after fault block offset bytes
-Answers first last before after (Err (trim.NoSuchFrame low high)) bytes left = IsWithout first last before after low high bytes left
-Answers first last before after (Err trim.ReadFault) bytes left = IsCut first last before after bytes left
-Answers first last before after (Err trim.SinkFault) bytes left = AppendsPart before after (written first last bytes)
-Answers first last before after (Err trim.WantMemory) bytes left = AppendsPart before after (written first last bytes)
+Answers first last before after (Err (play.Bad fault block offset)) bytes left = IsBadAt first last before after fault block offset bytes
+Answers first last before after (Err (play.NoSuchFrame low high)) bytes left = IsWithout first last before after low high bytes left
+Answers first last before after (Err play.ReadFault) bytes left = IsCut first last before after bytes left
+Answers first last before after (Err play.SinkFault) bytes left = AppendsPart before after (written first last bytes)
+Answers first last before after (Err play.WantMemory) bytes left = AppendsPart before after (written first last bytes)
 
 -- and the trimmed file keeps the frames
-abbrev pub KeepsIfDone : (first last : ℕ) → Option (List ℕ) → Option (List ℕ) → Result Unit TrimFault → List ℕ → List ℕ → Type 0
+abbrev pub KeepsIfDone : (first last : ℕ) → Option (List ℕ) → Option (List ℕ) → Result Unit PlayFault → List ℕ → List ℕ → Type 0
 KeepsIfDone first last before after result bytes left = AreBytes bytes → OnOk result (Keeps first last before after bytes)
-
--- some blocks of a file were read and taken, none of them the last of the range, and what is to be written of them was
-pub record Cutting (first last : ℕ) (all : List ℕ) (stage : Stage) (c : Cutter) (rest : List ℕ) (before after : Option (List ℕ)) : Type 0 where
-  pub fed : List Whole
-  pub fits : IsFed fed stage all rest
-  pub stands : IsAfter c fed
-  pub first_is : c.first ≡ first
-  pub last_is : c.last ≡ last
-  pub minor_is : c.minor ≡ minor_of all
-  pub text : Appends before after (text_by c fed)

@@ -1,27 +1,10 @@
 -- What is written of a range of frames, by the blocks that were read.
-use Rattle.std.specs.Prelude.{ℕ, Bool, true, false, if◌then◌else◌, List, [], ◌∷◌, Option, Some, None}
+use Rattle.std.specs.Prelude.{ℕ, Bool, true, false, if◌then◌else◌, List, []}
 use Rattle.std.specs.List.{list_any}
-use Rattle.gfx_types.specs.declared.names.Fault.{Fault}
-use Rattle.gfx_model.specs.Events.{Event}
 use Rattle.gfx_model.specs.Blocks.{Content, Whole, minor_of}
 use Rattle.gfx_model.specs.Blocks.Content.{skipped, effect}
-use Rattle.gfx_model.specs.Meaning.{content_onto, content_fault}
 use Rattle.gfx_model.specs.Trimmed.{boundary, range_from, trimmed_by}
-use Rattle.gfx_grammar.specs.Splitting.{blocks_of}
-
--- a block before others, or none of them where it has a fault
-abbrev pub unless_bad : Option Fault → Whole → List Whole → List Whole
-unless_bad (Some f) w ws = []
-unless_bad None w ws = w ∷ ws
-
--- the blocks before the first with a rule fault, after a history
-unfoldable pub valid_from : List Event → List Whole → List Whole
-valid_from h [] = []
-valid_from h (w ∷ ws) = unless_bad (content_fault h w.content) w (valid_from (content_onto w.content h) ws)
-
--- the blocks of a file before its first bad one
-abbrev pub valid_in : List ℕ → List Whole
-valid_in bytes = valid_from [] (blocks_of bytes).items
+use Rattle.gfx_player.specs.Meanings.{valid_in}
 
 -- a block that isn't skipped
 abbrev pub acts : Content → Bool

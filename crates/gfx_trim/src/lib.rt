@@ -2,11 +2,9 @@
 #![tactic(auto)]
 
 mod cutter;
-mod fault;
 mod marks;
 mod opening;
 mod phase;
 mod trimming;
 
-pub use fault::TrimFault;
 pub use trimming::trim;

@@ -3,9 +3,10 @@ ghost use Rattle.std.specs.Prelude.{◌≡◌, List, false};
 ghost use Rattle.gfx_model.specs.Events.{Event};
 ghost use Rattle.gfx_model.specs.Trimmed.{content_begins, cuts_before};
 ghost use Rattle.gfx_blocks.specs.Payloads.{content_of};
-ghost use Rattle.gfx_trim.specs.Cutters.{is_number, number_by};
+ghost use Rattle.gfx_trim.specs.Cutters.{is_number, number_by, number_of};
 ghost use Rattle.gfx_trim.specs.Marks.{ends_at};
 
+use gfx_replay::ShownFrame;
 use gfx_types::{Block, Effect};
 
 /// Whether the block begins a section.
@@ -51,5 +52,15 @@ pub(crate) fn shows_frame(last: u64, number: Option<u64>) -> bool
     match number {
         Some(number) => number == last,
         None => false,
+    }
+}
+
+/// The number of a frame that is shown, if one is.
+pub(crate) fn shown_number(shown: Option<ShownFrame>) -> Option<u64>
+    ensures { result ≡ number_of shown }
+{
+    match shown {
+        Some(frame) => Some(frame.number),
+        None => None,
     }
 }

@@ -1,35 +1,86 @@
-use Rattle.std.proofs.Common.{Ok, Err, sym, ap, subst, ◌∙◌}
+use Rattle.std.proofs.Common.{◌∷◌, ◌++◌, [], true, false, Ok, refl, sym, ap, ◌∙◌, arith}
 use Rattle.std.proofs.lemmas.Result.{err_from_is_err_and}
-use Rattle.gfx_io.specs.Told.{IfTold}
-use Rattle.gfx_decode.specs.Decoding.{GivesHeader, start_of}
-use Rattle.gfx_decode.specs.Stage.{At}
-use Rattle.gfx_decode.specs.Reachable.{IsBehind}
-use Rattle.gfx_play.specs.Played.{Played}
-use Rattle.gfx_play.specs.Shows.{Answers}
-use Rattle.gfx_decode.proofs.Ahead.{none_behind}
-use Rattle.gfx_play.proofs.Playing.{played_start}
-use Rattle.gfx_play.proofs.Showing.{header_fails}
-use Rattle.gfx_decode.proofs.Told.{told_bytes, told_if}
+use Rattle.gfx_replay.specs.Replayer.{bytes_of}
+use Rattle.gfx_replay.specs.Shown.{frame_of}
+use Rattle.gfx_player.proofs.Playing.{plays_going, room_for}
+use Rattle.gfx_play.proofs.Lines.{listing_of}
+use Rattle.gfx_play.proofs.Showing.{Counts, next_fails, open_fails, show_fails, shown_end, shown_last, shown_more, shown_none}
 use Rattle.gfx_play.proofs.play.show_frames.Goals as goal
 
-pub returns-in_err-header-clause-told : goal.returns-in_err-header-clause-told
-returns-in_err-header-clause-told g c =
+pub returns-in_err-player-clause-told : goal.returns-in_err-player-clause-told
+returns-in_err-player-clause-told g c =
     let p = err_from_is_err_and c.from_residual.result c.from_residual.ensures.1 in
-    let taken = g.K.Sink.taken c.args.sink.now in
-    subst (λ r. IfTold (g.S.Source.left c.args.source.now) (g.S.Source.left c.header.new.source) (Answers c.args.asked c.args.pixels taken taken r)) (sym (p.1 ∙ ap Err p.2))
-    (header_fails c.args.asked c.args.pixels taken c.in_err-header.field-0.0 _ _ c.in_err-header.ensures.gives c.in_err-header.ensures.fault)
+    rw (p.1, p.2) (open_fails c.args.asked c.args.pixels _ _ _ (g.K.Sink.taken c.args.sink.now) c.in_err-player.ensures.stopped)
 
-pub show_blocks-requires-clause-place : goal.show_blocks-requires-clause-place
-show_blocks-requires-clause-place g c =
-    subst (IsBehind c.new-screen.result.count) (sym c.in_ok-header.ensures.after) (none_behind c.in_ok-header.header c.new-screen.result.count c.new-screen.ensures.count)
+pub frames-init : goal.frames-init
+frames-init g c =
+    let p = c.in_ok-player.player in
+    let plays = c.in_ok-player.ensures.plays in
+    record {
+      going = plays_going p [] _ _ plays;
+      showing = ([], shown_none c.args.asked c.args.pixels p _ _ _ (g.K.Sink.taken c.args.sink.now) plays refl (ap (λ m. listing_of m c.args.pixels) c.minor.ensures) refl);
+      later_source = c.in_ok-player.ensures.later;
+      later_sink = omega arith;
+    }
+
+pub next_frame-requires : goal.next_frame-requires
+next_frame-requires g c = record { going = c.frames.invariant.going }
+
+pub returns-in_err-frame-clause-told : goal.returns-in_err-frame-clause-told
+returns-in_err-frame-clause-told g c =
+    let p = err_from_is_err_and c.from_residual-in_err-frame.result c.from_residual-in_err-frame.ensures.1 in
+    let (shown, w) = c.frames.invariant.showing in
+    rw (p.1, p.2) (next_fails c.args.asked c.args.pixels c.frames.player c.frames.screen shown _ _ _ _ _ _ w (c.in_err-frame.ensures.err shown _ w.plays))
+
+pub show-requires-clause-there : goal.show-requires-clause-there
+show-requires-clause-there g c =
+    let (shown, w) = c.frames.invariant.showing in
+    let next = rw c.in-Some.is at c.in_ok-frame.ensures.some in
+    (next shown _ w.plays).there
+
+pub show-requires-clause-room : goal.show-requires-clause-room
+show-requires-clause-room g c =
+    let (shown, w) = c.frames.invariant.showing in
+    room_for c.args.asked c.frames.player shown _ _ c.frames.screen.count w.plays w.count
+
+pub returns-in_err-show-clause-told : goal.returns-in_err-show-clause-told
+returns-in_err-show-clause-told g c =
+    let p = err_from_is_err_and c.from_residual-in_err-show.result c.from_residual-in_err-show.ensures.1 in
+    let (shown, w) = c.frames.invariant.showing in
+    let next = rw c.in-Some.is at c.in_ok-frame.ensures.some in
+    rw (p.1, p.2)
+    (show_fails c.args.asked c.args.pixels c.frames.player c.next_frame.new.self c.frames.screen shown c.in-Some.frame _ _ _ _ _ _ _ w (next shown _ w.plays) c.next_frame.ensures.minor
+    c.in_err-show.ensures.err c.in_err-show.ensures.front)
+
+pub frames-preserved : goal.frames-preserved
+frames-preserved g c =
+    let (shown, w) = c.frames.invariant.showing in
+    let next = rw c.in-Some.is at c.in_ok-frame.ensures.some in
+    let fewer = rw c.in-Some.is at c.in_ok-frame.ensures.fewer in
+    let did = c.in_ok-show.ensures in
+    let counts : Counts c.frames.screen c.show.new.self c.next_frame.new.self c.in-Some.frame false = record { asked = did.asked; listing = did.listing; count = did.count; last = sym c.if-branch.false ∙ did.last } in
+    record {
+      going = fewer.0;
+      showing = (
+        shown ++ frame_of (bytes_of c.next_frame.new.self.replayer) c.in-Some.frame ∷ [],
+        shown_more c.args.asked c.args.pixels c.frames.player c.next_frame.new.self c.frames.screen c.show.new.self shown c.in-Some.frame _ _ _ _ _ _ _ w (next shown _ w.plays) c.next_frame.ensures.minor counts did.ok,
+      );
+      later_source = omega (arith, c.frames.invariant.later_source, c.in_ok-frame.ensures.later);
+      later_sink = omega (arith, c.frames.invariant.later_sink, did.later);
+    }
+
+pub returns-then-branch-clause-told : goal.returns-then-branch-clause-told
+returns-then-branch-clause-told g c =
+    let (shown, w) = c.frames.invariant.showing in
+    let next = rw c.in-Some.is at c.in_ok-frame.ensures.some in
+    let did = c.in_ok-show.ensures in
+    let counts : Counts c.frames.screen c.show.new.self c.next_frame.new.self c.in-Some.frame true = record { asked = did.asked; listing = did.listing; count = did.count; last = sym c.if-branch.true ∙ did.last } in
+    let all = shown_more c.args.asked c.args.pixels c.frames.player c.next_frame.new.self c.frames.screen c.show.new.self shown c.in-Some.frame _ _ _ _ _ _ _ w (next shown _ w.plays) c.next_frame.ensures.minor counts did.ok in
+    shown_last c.args.asked c.args.pixels c.next_frame.new.self c.show.new.self shown (frame_of (bytes_of c.next_frame.new.self.replayer) c.in-Some.frame) c.finish.result _ _ _ _ _ w.last all (next shown _ w.plays).behind
+    c.finish.ensures.ok c.finish.ensures.front c.finish.ensures.err
 
 pub returns-clause-told : goal.returns-clause-told
 returns-clause-told g c =
-    let taken = g.K.Sink.taken c.args.sink.now in
-    let header = c.in_ok-header.header in
-    let (bytes, is, read) = c.in_ok-header.ensures.bytes in
-    c.show_blocks.ensures.told c.args.asked c.args.pixels (g.S.Source.left c.args.source.now) taken
-    (subst (λ s. IfTold (g.S.Source.left c.args.source.now) (g.S.Source.left c.header.new.source) (λ all left. Played c.args.asked c.args.pixels all s c.new-screen.result left taken taken)) (sym c.in_ok-header.ensures.after)
-    (told_if _ _ _ (λ all left. Played c.args.asked c.args.pixels all (At header.minor (start_of header)) c.new-screen.result left taken taken)
-    (told_bytes _ _ bytes (GivesHeader (Ok header)) c.in_ok-header.ensures.gives read)
-    (λ all left came. played_start c.args.asked c.args.pixels all left header c.new-screen.result taken came.0 bytes is came.1 c.new-screen.ensures.after c.new-screen.ensures.asked c.new-screen.ensures.listing)))
+    let (shown, w) = c.frames.invariant.showing in
+    shown_end c.args.asked c.args.pixels c.frames.player c.next_frame.new.self c.frames.screen shown c.end.result _ _ _ _ _ _ w (c.in_ok-frame.ensures.none (ap Ok c.in_default.is) shown _ w.plays)
+    c.end.ensures.ok (λ first last is. let x = c.end.ensures.without first last is in (x.0, ap (λ s. g.K.Sink.taken s) x.1, x.2, x.3)) c.end.ensures.front c.end.ensures.err

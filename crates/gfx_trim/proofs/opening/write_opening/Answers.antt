@@ -12,24 +12,24 @@ returns-in_err-write_whole-clause-front g c h s =
 pub write_state-requires : goal.write_state-requires
 write_state-requires g c = places_for c.args.replayer.now c.tracker.result.now c.tracker.ensures c.requires.0 c.requires.1
 
-pub returns-in_err-write_state-clause-front : goal.returns-in_err-write_state-clause-front
-returns-in_err-write_state-clause-front g c h s =
+pub returns-in-Err-clause-front : goal.returns-in-Err-clause-front
+returns-in-Err-clause-front g c h s =
     let is : c.deref.result.now ≡ header c.args.minor = c.deref.ensures.value ∙ c.in_ok-put_header.ensures.ok ∙ ap (λ l. l ++ header c.args.minor) c.new-header.ensures.items in
     front_section c.args.minor h c.args.first c.args.kept.now c.deref.result.now _ _ _ s.stands.valid is c.in_ok-write_whole.ensures.bytes
-    (c.in_err-write_state.ensures.err h (stands_for c.args.replayer.now c.tracker.result.now c.tracker.ensures h s) (stored_for c.args.replayer.now c.tracker.result.now c.tracker.ensures h s))
+    (c.in-Err.ensures.err h (stands_for c.args.replayer.now c.tracker.result.now c.tracker.ensures h s) (stored_for c.args.replayer.now c.tracker.result.now c.tracker.ensures h s))
 
 pub returns-in_err-write_whole-2-clause-front : goal.returns-in_err-write_whole-2-clause-front
 returns-in_err-write_whole-2-clause-front g c h s =
     let is : c.deref.result.now ≡ header c.args.minor = c.deref.ensures.value ∙ c.in_ok-put_header.ensures.ok ∙ ap (λ l. l ++ header c.args.minor) c.new-header.ensures.items in
     front_kept c.args.minor h c.args.first c.args.kept.now c.deref.result.now _ _ _ _ s.stands.valid is c.in_ok-write_whole.ensures.bytes
-    (c.in_ok-write_state.ensures.ok h (stands_for c.args.replayer.now c.tracker.result.now c.tracker.ensures h s) (stored_for c.args.replayer.now c.tracker.result.now c.tracker.ensures h s))
+    (c.in-Ok.ensures.ok h (stands_for c.args.replayer.now c.tracker.result.now c.tracker.ensures h s) (stored_for c.args.replayer.now c.tracker.result.now c.tracker.ensures h s))
     c.in_err-write_whole-2.ensures.failed
 
 pub returns-clause-ok : goal.returns-clause-ok
 returns-clause-ok g c h s =
     let is : c.deref.result.now ≡ header c.args.minor = c.deref.ensures.value ∙ c.in_ok-put_header.ensures.ok ∙ ap (λ l. l ++ header c.args.minor) c.new-header.ensures.items in
     whole_opening c.args.minor h c.args.first c.args.kept.now c.deref.result.now _ _ _ _ s.stands.valid is c.in_ok-write_whole.ensures.bytes
-    (c.in_ok-write_state.ensures.ok h (stands_for c.args.replayer.now c.tracker.result.now c.tracker.ensures h s) (stored_for c.args.replayer.now c.tracker.result.now c.tracker.ensures h s))
+    (c.in-Ok.ensures.ok h (stands_for c.args.replayer.now c.tracker.result.now c.tracker.ensures h s) (stored_for c.args.replayer.now c.tracker.result.now c.tracker.ensures h s))
     c.in_ok-write_whole-2.ensures.bytes
 
 pub returns-clause-front : goal.returns-clause-front

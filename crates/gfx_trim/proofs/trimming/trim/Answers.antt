@@ -1,58 +1,167 @@
-use Rattle.std.proofs.Common.{Ok, Err, refl, sym, ap, subst, ◌∙◌}
+use Rattle.std.proofs.Common.{◌≡◌, ◌∷◌, ◌++◌, [], false, true, Ok, Err, refl, sym, ap, subst, ◌∙◌, arith}
 use Rattle.std.proofs.lemmas.Result.{err_from_is_err_and}
-use Rattle.gfx_io.specs.Told.{IfTold}
-use Rattle.gfx_decode.specs.Decoding.{GivesHeader, start_of}
-use Rattle.gfx_decode.specs.Stage.{At}
+use Rattle.gfx_decode.specs.Decoding.{item_of}
 use Rattle.gfx_decode.specs.Reachable.{IsBehind}
-use Rattle.gfx_decode.proofs.Ahead.{none_behind}
-use Rattle.gfx_decode.proofs.Told.{told_bytes, told_if}
-use Rattle.gfx_trim.specs.Faults.{of_decoder}
-use Rattle.gfx_trim.specs.Trims.{Answers, Cutting, KeepsIfDone}
-use Rattle.gfx_trim.proofs.Answering.{header_fails}
-use Rattle.gfx_trim.proofs.Files.{start}
+use Rattle.gfx_decode.proofs.Told.{told_if}
+use Rattle.gfx_player.proofs.Walking.{still_going}
+use Rattle.gfx_trim.specs.Cutters.{GoesOn, IsAfter, Takes}
+use Rattle.gfx_trim.specs.Trims.{Answers, KeepsIfDone}
+use Rattle.gfx_trim.proofs.Files.{Both, cut_done, cut_more, file_ends, next_fails, open_fails, start, take_fails}
+use Rattle.gfx_trim.proofs.Taking.{after_alike}
 use Rattle.gfx_trim.proofs.trimming.trim.Goals as goal
 
-pub returns-in_err-header-clause-told : goal.returns-in_err-header-clause-told
-returns-in_err-header-clause-told g c =
+pub returns-in_err-player-clause-told : goal.returns-in_err-player-clause-told
+returns-in_err-player-clause-told g c =
     let p = err_from_is_err_and c.from_residual.result c.from_residual.ensures.1 in
     let taken = g.K.Sink.taken c.args.sink.now in
-    subst (λ r. IfTold (g.S.Source.left c.args.source.now) (g.S.Source.left c.header.new.source) (Answers c.args.first c.args.last taken taken r)) (sym (p.1 ∙ ap Err p.2))
-    (told_if _ _ _ (Answers c.args.first c.args.last taken taken (Err _))
-    (header_fails c.args.first c.args.last taken c.in_err-header.field-0.0 _ _ c.requires.ordered c.in_err-header.ensures.gives c.in_err-header.ensures.fault) (λ all left both. both.0))
+    rw (p.1, p.2)
+    (told_if _ _ (Both c.args.first c.args.last taken taken (Err c.in_err-player.field-0.0)) (Answers c.args.first c.args.last taken taken (Err c.in_err-player.field-0.0))
+    (open_fails c.args.first c.args.last c.in_err-player.field-0.0 _ _ taken c.requires.ordered c.in_err-player.ensures.err) (λ all left both. both.0))
 
-pub returns-in_err-header-clause-keeps : goal.returns-in_err-header-clause-keeps
-returns-in_err-header-clause-keeps g c =
+pub returns-in_err-player-clause-keeps : goal.returns-in_err-player-clause-keeps
+returns-in_err-player-clause-keeps g c =
     let p = err_from_is_err_and c.from_residual.result c.from_residual.ensures.1 in
     let taken = g.K.Sink.taken c.args.sink.now in
-    subst (λ r. IfTold (g.S.Source.left c.args.source.now) (g.S.Source.left c.header.new.source) (KeepsIfDone c.args.first c.args.last taken taken r)) (sym (p.1 ∙ ap Err p.2))
-    (told_if _ _ _ (KeepsIfDone c.args.first c.args.last taken taken (Err (of_decoder c.in_err-header.field-0.0)))
-    (header_fails c.args.first c.args.last taken c.in_err-header.field-0.0 _ _ c.requires.ordered c.in_err-header.ensures.gives c.in_err-header.ensures.fault) (λ all left both. both.1))
+    rw (p.1, p.2)
+    (told_if _ _ (Both c.args.first c.args.last taken taken (Err c.in_err-player.field-0.0)) (KeepsIfDone c.args.first c.args.last taken taken (Err c.in_err-player.field-0.0))
+    (open_fails c.args.first c.args.last c.in_err-player.field-0.0 _ _ taken c.requires.ordered c.in_err-player.ensures.err) (λ all left both. both.1))
 
-pub cut_blocks-requires-clause-place : goal.cut_blocks-requires-clause-place
-cut_blocks-requires-clause-place g c = subst (IsBehind 0) (sym c.in_ok-header.ensures.after) (none_behind c.in_ok-header.header 0 (refl))
+pub reading-init : goal.reading-init
+reading-init g c =
+    let p = c.in_ok-player.player in
+    let cutter = c.new-cutter.result in
+    let of = c.new-cutter.ensures in
+    let after : IsAfter cutter p [] = record { replayed = c.in_ok-player.ensures.replayed; phase = rw (of.first, of.last) of.phase } in
+    record {
+      going = still_going 0 p.decoder c.in_ok-player.ensures.read.place;
+      cutting = ([], start c.args.first c.args.last p cutter _ _ (g.K.Sink.taken c.args.sink.now) after c.in_ok-player.ensures.read of.first of.last (of.minor ∙ c.minor.ensures));
+      later_source = c.in_ok-player.ensures.later;
+      later_sink = omega arith;
+    }
 
+pub next-requires : goal.next-requires
+next-requires g c = record { going = c.reading.invariant.going }
+
+pub take-requires : goal.take-requires
+take-requires g c =
+    let (fed, w) = c.reading.invariant.cutting in
+    record { after = (fed, after_alike c.reading.cutter c.reading.player c.next.new.self fed c.next.ensures.kept w.stands) }
+
+pub returns-in_err-raw-clause-told : goal.returns-in_err-raw-clause-told
+returns-in_err-raw-clause-told g c =
+    let p = err_from_is_err_and c.from_residual-in_err-raw.result c.from_residual-in_err-raw.ensures.1 in
+    let (fed, w) = c.reading.invariant.cutting in
+    let why = c.in_err-raw.field-0.0 in
+    let before = g.K.Sink.taken c.args.sink.now in
+    let after = g.K.Sink.taken c.reading.sink in
+    rw (p.1, p.2)
+    (told_if _ _ (Both c.args.first c.args.last before after (Err why)) (Answers c.args.first c.args.last before after (Err why))
+    (next_fails c.args.first c.args.last c.reading.player c.reading.cutter fed why _ _ _ before after c.requires.ordered w (c.in_err-raw.ensures.err fed _ w.stands.replayed w.read)) (λ all left both. both.0))
+
+pub returns-in_err-raw-clause-keeps : goal.returns-in_err-raw-clause-keeps
+returns-in_err-raw-clause-keeps g c =
+    let p = err_from_is_err_and c.from_residual-in_err-raw.result c.from_residual-in_err-raw.ensures.1 in
+    let (fed, w) = c.reading.invariant.cutting in
+    let why = c.in_err-raw.field-0.0 in
+    let before = g.K.Sink.taken c.args.sink.now in
+    let after = g.K.Sink.taken c.reading.sink in
+    rw (p.1, p.2)
+    (told_if _ _ (Both c.args.first c.args.last before after (Err why)) (KeepsIfDone c.args.first c.args.last before after (Err why))
+    (next_fails c.args.first c.args.last c.reading.player c.reading.cutter fed why _ _ _ before after c.requires.ordered w (c.in_err-raw.ensures.err fed _ w.stands.replayed w.read)) (λ all left both. both.1))
+
+-- a block was not taken
+pub returns-in_err-take-clause-told : goal.returns-in_err-take-clause-told
+returns-in_err-take-clause-told g c =
+    let p = err_from_is_err_and c.from_residual-in_err-take.result c.from_residual-in_err-take.ensures.1 in
+    let (fed, w) = c.reading.invariant.cutting in
+    let why = c.in_err-take.field-0.0 in
+    let before = g.K.Sink.taken c.args.sink.now in
+    let after = g.K.Sink.taken c.take.new.sink in
+    let some = rw c.in-Some.is at c.in_ok-raw.ensures.some in
+    let stands = after_alike c.reading.cutter c.reading.player c.next.new.self fed c.next.ensures.kept w.stands in
+    let did = c.in_err-take.ensures in
+    rw (p.1, p.2)
+    (told_if _ _ (Both c.args.first c.args.last before after (Err why)) (Answers c.args.first c.args.last before after (Err why))
+    (take_fails c.args.first c.args.last c.reading.player c.next.new.self c.reading.cutter fed (item_of c.in-Some.raw) why _ _ _ before (g.K.Sink.taken c.reading.sink) after c.requires.ordered w (some fed _ w.read) c.next.ensures.kept.minor
+    (did.takes.err fed stands) (λ fault block offset is. ap (λ s. g.K.Sink.taken s) (did.refused fault block offset (ap Err is))) (did.takes.front fed before stands w.text)) (λ all left both. both.0))
+
+pub returns-in_err-take-clause-keeps : goal.returns-in_err-take-clause-keeps
+returns-in_err-take-clause-keeps g c =
+    let p = err_from_is_err_and c.from_residual-in_err-take.result c.from_residual-in_err-take.ensures.1 in
+    let (fed, w) = c.reading.invariant.cutting in
+    let why = c.in_err-take.field-0.0 in
+    let before = g.K.Sink.taken c.args.sink.now in
+    let after = g.K.Sink.taken c.take.new.sink in
+    let some = rw c.in-Some.is at c.in_ok-raw.ensures.some in
+    let stands = after_alike c.reading.cutter c.reading.player c.next.new.self fed c.next.ensures.kept w.stands in
+    let did = c.in_err-take.ensures in
+    rw (p.1, p.2)
+    (told_if _ _ (Both c.args.first c.args.last before after (Err why)) (KeepsIfDone c.args.first c.args.last before after (Err why))
+    (take_fails c.args.first c.args.last c.reading.player c.next.new.self c.reading.cutter fed (item_of c.in-Some.raw) why _ _ _ before (g.K.Sink.taken c.reading.sink) after c.requires.ordered w (some fed _ w.read) c.next.ensures.kept.minor
+    (did.takes.err fed stands) (λ fault block offset is. ap (λ s. g.K.Sink.taken s) (did.refused fault block offset (ap Err is))) (did.takes.front fed before stands w.text)) (λ all left both. both.1))
+
+-- the last block of the range was taken
+pub returns-then-branch-clause-told : goal.returns-then-branch-clause-told
+returns-then-branch-clause-told g c =
+    let (fed, w) = c.reading.invariant.cutting in
+    let before = g.K.Sink.taken c.args.sink.now in
+    let after = g.K.Sink.taken c.take.new.sink in
+    let some = rw c.in-Some.is at c.in_ok-raw.ensures.some in
+    let stands = after_alike c.reading.cutter c.reading.player c.next.new.self fed c.next.ensures.kept w.stands in
+    let did = c.in_ok-take.ensures.takes in
+    told_if _ _ (Both c.args.first c.args.last before after (Ok tt)) (Answers c.args.first c.args.last before after (Ok tt))
+    (cut_done c.args.first c.args.last c.reading.player c.next.new.self c.reading.cutter fed (item_of c.in-Some.raw) _ _ _ before (g.K.Sink.taken c.reading.sink) after c.requires.ordered w (some fed _ w.read) c.next.ensures.kept.minor
+    (subst (λ t. Takes t c.reading.cutter c.take.new.self c.take.new.player fed (item_of c.in-Some.raw)) c.if-branch.true (did.ok fed stands)) (did.text fed before stands w.text)) (λ all left both. both.0)
+
+pub returns-then-branch-clause-keeps : goal.returns-then-branch-clause-keeps
+returns-then-branch-clause-keeps g c =
+    let (fed, w) = c.reading.invariant.cutting in
+    let before = g.K.Sink.taken c.args.sink.now in
+    let after = g.K.Sink.taken c.take.new.sink in
+    let some = rw c.in-Some.is at c.in_ok-raw.ensures.some in
+    let stands = after_alike c.reading.cutter c.reading.player c.next.new.self fed c.next.ensures.kept w.stands in
+    let did = c.in_ok-take.ensures.takes in
+    told_if _ _ (Both c.args.first c.args.last before after (Ok tt)) (KeepsIfDone c.args.first c.args.last before after (Ok tt))
+    (cut_done c.args.first c.args.last c.reading.player c.next.new.self c.reading.cutter fed (item_of c.in-Some.raw) _ _ _ before (g.K.Sink.taken c.reading.sink) after c.requires.ordered w (some fed _ w.read) c.next.ensures.kept.minor
+    (subst (λ t. Takes t c.reading.cutter c.take.new.self c.take.new.player fed (item_of c.in-Some.raw)) c.if-branch.true (did.ok fed stands)) (did.text fed before stands w.text)) (λ all left both. both.1)
+
+pub reading-preserved : goal.reading-preserved
+reading-preserved g c =
+    let (fed, w) = c.reading.invariant.cutting in
+    let before = g.K.Sink.taken c.args.sink.now in
+    let after = g.K.Sink.taken c.take.new.sink in
+    let some = rw c.in-Some.is at c.in_ok-raw.ensures.some in
+    let fewer = rw c.in-Some.is at c.in_ok-raw.ensures.fewer in
+    let stands = after_alike c.reading.cutter c.reading.player c.next.new.self fed c.next.ensures.kept w.stands in
+    let did = c.in_ok-take.ensures.takes in
+    let goes : GoesOn c.reading.cutter c.take.new.self c.take.new.player fed (item_of c.in-Some.raw) =
+    subst (λ t. Takes t c.reading.cutter c.take.new.self c.take.new.player fed (item_of c.in-Some.raw)) c.if-branch.false (did.ok fed stands) in
+    record {
+      going = subst (IsBehind 0) (sym c.in_ok-take.ensures.same.decoder) fewer.0;
+      cutting = (
+        fed ++ item_of c.in-Some.raw ∷ [],
+        cut_more c.args.first c.args.last c.reading.player c.next.new.self c.take.new.player c.reading.cutter c.take.new.self fed (item_of c.in-Some.raw) _ _ _ before (g.K.Sink.taken c.reading.sink) after w (some fed _ w.read)
+            c.next.ensures.kept.minor c.in_ok-take.ensures.same goes (did.text fed before stands w.text),
+      );
+      later_source = omega (arith, c.reading.invariant.later_source, c.in_ok-raw.ensures.later);
+      later_sink = omega (arith, c.reading.invariant.later_sink, c.in_ok-take.ensures.later);
+    }
+
+-- the file is at its clean end
 pub returns-clause-told : goal.returns-clause-told
 returns-clause-told g c =
-    let taken = g.K.Sink.taken c.args.sink.now in
-    let header = c.in_ok-header.header in
-    let (bytes, is, read) = c.in_ok-header.ensures.bytes in
-    told_if _ _ _ (Answers c.args.first c.args.last taken (g.K.Sink.taken c.cut_blocks.new.sink) c.cut_blocks.result)
-    (c.cut_blocks.ensures.told c.args.first c.args.last (g.S.Source.left c.args.source.now) taken c.requires.ordered
-    (subst (λ s. IfTold (g.S.Source.left c.args.source.now) (g.S.Source.left c.header.new.source) (λ all left. Cutting c.args.first c.args.last all s c.new-cutter.result left taken taken)) (sym c.in_ok-header.ensures.after)
-    (told_if _ _ _ (λ all left. Cutting c.args.first c.args.last all (At header.minor (start_of header)) c.new-cutter.result left taken taken)
-    (told_bytes _ _ bytes (GivesHeader (Ok header)) c.in_ok-header.ensures.gives read)
-    (λ all left came. start c.args.first c.args.last header c.new-cutter.result all left bytes taken came.0 is came.1 c.new-cutter.ensures.after c.new-cutter.ensures.first c.new-cutter.ensures.last c.new-cutter.ensures.minor))))
-    (λ all left both. both.0)
+    let (fed, w) = c.reading.invariant.cutting in
+    let before = g.K.Sink.taken c.args.sink.now in
+    let after = g.K.Sink.taken c.reading.sink in
+    told_if _ _ (Both c.args.first c.args.last before after (Err c.no_such_frame.result)) (Answers c.args.first c.args.last before after (Err c.no_such_frame.result))
+    (file_ends c.args.first c.args.last c.reading.player c.next.new.self c.reading.cutter fed c.no_such_frame.result _ _ _ before after c.requires.ordered w c.next.ensures.kept
+    (c.in_ok-raw.ensures.none (ap Ok c.in_default.is) fed _ w.stands.replayed w.read) c.no_such_frame.ensures) (λ all left both. both.0)
 
 pub returns-clause-keeps : goal.returns-clause-keeps
 returns-clause-keeps g c =
-    let taken = g.K.Sink.taken c.args.sink.now in
-    let header = c.in_ok-header.header in
-    let (bytes, is, read) = c.in_ok-header.ensures.bytes in
-    told_if _ _ _ (KeepsIfDone c.args.first c.args.last taken (g.K.Sink.taken c.cut_blocks.new.sink) c.cut_blocks.result)
-    (c.cut_blocks.ensures.told c.args.first c.args.last (g.S.Source.left c.args.source.now) taken c.requires.ordered
-    (subst (λ s. IfTold (g.S.Source.left c.args.source.now) (g.S.Source.left c.header.new.source) (λ all left. Cutting c.args.first c.args.last all s c.new-cutter.result left taken taken)) (sym c.in_ok-header.ensures.after)
-    (told_if _ _ _ (λ all left. Cutting c.args.first c.args.last all (At header.minor (start_of header)) c.new-cutter.result left taken taken)
-    (told_bytes _ _ bytes (GivesHeader (Ok header)) c.in_ok-header.ensures.gives read)
-    (λ all left came. start c.args.first c.args.last header c.new-cutter.result all left bytes taken came.0 is came.1 c.new-cutter.ensures.after c.new-cutter.ensures.first c.new-cutter.ensures.last c.new-cutter.ensures.minor))))
-    (λ all left both. both.1)
+    let (fed, w) = c.reading.invariant.cutting in
+    let before = g.K.Sink.taken c.args.sink.now in
+    let after = g.K.Sink.taken c.reading.sink in
+    told_if _ _ (Both c.args.first c.args.last before after (Err c.no_such_frame.result)) (KeepsIfDone c.args.first c.args.last before after (Err c.no_such_frame.result))
+    (file_ends c.args.first c.args.last c.reading.player c.next.new.self c.reading.cutter fed c.no_such_frame.result _ _ _ before after c.requires.ordered w c.next.ensures.kept
+    (c.in_ok-raw.ensures.none (ap Ok c.in_default.is) fed _ w.stands.replayed w.read) c.no_such_frame.ensures) (λ all left both. both.1)
