@@ -34,7 +34,7 @@ use Rattle.gfx_cli.specs.Text.{at_clean, counts_text, info_text, line_feed}
 pub info_fails : (taken : Option (List ℕ)) (why : DecodeFault) (all rest bytes : List ℕ) → CountsAll (Err why) all rest → all ≡ bytes ++ rest
     → Stops Info taken taken (of_decoder why) all rest
 info_fails taken (decoder.Bad fault block offset) all rest bytes end is = (end, appends_none taken)
-info_fails taken decoder.ReadFault all rest bytes end is = record { reads = tt; read = bytes; parts = is; text = appends_none taken; front = nothing_written taken (info_text all) }
+info_fails taken decoder.ReadFault all rest bytes end is = record { reads = tt; read = bytes; parts = is; going = tt; text = appends_none taken; front = nothing_written taken (info_text all) }
 info_fails taken decoder.WantMemory all rest bytes end is = nothing_written taken (info_text all)
 
 -- and no frame is asked for
@@ -71,8 +71,8 @@ pub replay_fails : (why : PlayFault) (pixels : Bool) (frames : Option FrameRange
     → Answers (asked_by frames) pixels before after (Err why) all rest → Stops (Replay pixels frames) before after (of_play why) all rest
 replay_fails (play.Bad fault block offset) pixels frames before after all rest is = ((is.end, is.unseen), is.text)
 replay_fails (play.NoSuchFrame first last) pixels frames before after all rest is =
-    (record { range = is.range; end = is.end; unseen = is.unseen; first_is = is.first_is; last_is = is.last_is }, is.text)
-replay_fails play.ReadFault pixels frames before after all rest is = record { reads = tt; read = is.given; parts = is.parts; text = is.text; front = is.front }
+    (record { range = is.range; end = is.end; unseen = is.unseen; first_is = is.first_is; last_is = is.last_is }, is.text, is.read)
+replay_fails play.ReadFault pixels frames before after all rest is = record { reads = tt; read = is.given; parts = is.parts; going = (is.cut, is.lawful, is.unseen); text = is.text; front = is.front }
 replay_fails play.SinkFault pixels frames before after all rest is = is
 replay_fails play.WantMemory pixels frames before after all rest is = is
 
@@ -85,8 +85,8 @@ replay_done pixels frames before after all rest is = record { good = is.0.comple
 pub trim_fails : (why : PlayFault) (r : FrameRange) (before after : Option (List ℕ)) (all rest : List ℕ)
     → trim.Answers r.first r.last before after (Err why) all rest → Stops (Trim r) before after (of_play why) all rest
 trim_fails (play.Bad wrong block offset) r before after all rest is = ((is.end, is.outside), is.file)
-trim_fails (play.NoSuchFrame first last) r before after all rest is = (record { end = is.end; outside = is.outside; first_is = is.low_is; last_is = is.high_is }, is.file)
-trim_fails play.ReadFault r before after all rest is = record { reads = tt; read = is.given; parts = is.parts; text = is.file; front = is.front }
+trim_fails (play.NoSuchFrame first last) r before after all rest is = (record { end = is.end; outside = is.outside; first_is = is.low_is; last_is = is.high_is }, is.file, is.read)
+trim_fails play.ReadFault r before after all rest is = record { reads = tt; read = is.given; parts = is.parts; going = (is.cut, is.lawful, is.outside); text = is.file; front = is.front }
 trim_fails play.SinkFault r before after all rest is = is
 trim_fails play.WantMemory r before after all rest is = is
 

@@ -9,6 +9,7 @@ use Rattle.gfx_words.specs.declared.command.Command.TheVariants.{Info, Replay, T
 use Rattle.gfx_player.specs.declared.asked.Asked.{Asked}
 use Rattle.gfx_player.specs.declared.asked.Asked.TheVariants.{All, Between}
 use Rattle.gfx_player.specs.Asked.{has_last}
+use Rattle.gfx_player.specs.Fed.{IsUnfinished}
 use Rattle.gfx_player.specs.Meanings.{end_of, history_in, frames_in, first_in, last_in}
 use Rattle.gfx_play.specs.Shows as play
 use Rattle.gfx_trim.specs.Numbers as trim
@@ -72,6 +73,17 @@ LacksFrame (Trim r) first last bytes = LacksRange r first last bytes
 LacksFrame (Make n) first last bytes = ⊥
 LacksFrame Help first last bytes = ⊥
 LacksFrame Version first last bytes = ⊥
+
+-- nothing in these bytes stops the command: neither a bad block nor the last frame that it asks for, and the next block isn't whole
+abbrev pub GoesOn : Command → List ℕ → Type 0
+GoesOn Info read = ⊤
+GoesOn (Replay pixels frames) read =
+    IsUnfinished (blocks_of read).items read × (end_of read ≡ (blocks_of read).end) × (has_last (asked_by frames) (frames_in read) ≡ false)
+GoesOn (Trim r) read =
+    IsUnfinished (blocks_of read).items read × (end_of read ≡ (blocks_of read).end) × trim.IsOutside r.first r.last (history_in read)
+GoesOn (Make n) read = ⊥
+GoesOn Help read = ⊥
+GoesOn Version read = ⊥
 
 -- what the command writes, where the file has all that it asks for
 abbrev pub text_by : Command → List ℕ → List ℕ

@@ -5,7 +5,7 @@ use Rattle.gfx_io.specs.Pieces.{AppendsPart}
 use Rattle.gfx_words.specs.declared.command.Command.{Command}
 use Rattle.gfx_cli.specs.declared.stop.Stop.{Stop}
 use Rattle.gfx_cli.specs.declared.stop.Stop.TheVariants.{WantMemory, BadFile, NoSuchFrame, ReadFault, WriteFault}
-use Rattle.gfx_cli.specs.Commands.{IsGood, IsBad, LacksFrame, Leaves, Reads, text_by, text_before}
+use Rattle.gfx_cli.specs.Commands.{GoesOn, IsGood, IsBad, LacksFrame, Leaves, Reads, text_by, text_before}
 use Rattle.gfx_cli.specs.Stop.{IsUnwritten}
 
 -- all was written
@@ -14,11 +14,12 @@ pub record IsDone (c : Command) (before after : Option (List ℕ)) (bytes left :
   pub leaves : Leaves c bytes left
   pub text : Appends before after (text_by c bytes)
 
--- what stands before the place where reading stopped was written
+-- what stands before the place where reading stopped was written, and nothing there stops the command
 pub record IsCutOff (c : Command) (before after : Option (List ℕ)) (bytes left : List ℕ) : Type 0 where
   pub reads : Reads c
   pub read : List ℕ
   pub parts : bytes ≡ read ++ left
+  pub going : GoesOn c read
   pub text : Appends before after (text_before c read)
   -- which is a front of the command's text
   pub front : AppendsPart before after (text_by c bytes)
@@ -26,7 +27,7 @@ pub record IsCutOff (c : Command) (before after : Option (List ℕ)) (bytes left
 -- why a command stopped, and what it wrote by then
 abbrev pub Stops : Command → Option (List ℕ) → Option (List ℕ) → Stop → List ℕ → List ℕ → Type 0
 Stops c before after (BadFile fault block offset) bytes left = IsBad c fault block offset bytes × Appends before after (text_before c bytes)
-Stops c before after (NoSuchFrame first last) bytes left = LacksFrame c first last bytes × Appends before after (text_before c bytes)
+Stops c before after (NoSuchFrame first last) bytes left = LacksFrame c first last bytes × Appends before after (text_before c bytes) × (left ≡ [])
 Stops c before after ReadFault bytes left = IsCutOff c before after bytes left
 Stops c before after WriteFault bytes left = AppendsPart before after (text_by c bytes)
 Stops c before after WantMemory bytes left = AppendsPart before after (text_by c bytes)

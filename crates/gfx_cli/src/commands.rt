@@ -4,7 +4,6 @@ ghost use Rattle.std.specs.Io.KnownBytes.{Appends};
 ghost use Rattle.gfx_io.specs.Causes.{Rose};
 ghost use Rattle.gfx_io.specs.Pieces.{AppendsPart};
 ghost use Rattle.gfx_io.specs.Told.{IfTold};
-ghost use Rattle.gfx_grammar.specs.Reads.{AreBytes};
 ghost use Rattle.gfx_words.specs.Commands.{Fits};
 ghost use Rattle.gfx_words.specs.Words.{FitsRange};
 ghost use Rattle.gfx_words.specs.declared.range.FrameRange.{FrameRange as Range};
@@ -81,7 +80,7 @@ fn cut<S: Source, K: Sink>(
 ) -> Result<(), Stop>
     requires { FitsRange range }
     ensures ends { IfTold (S.left source.old) (S.left source.new) (Ends (Trim range) (K.taken sink.old) (K.taken sink.new) result) }
-    ensures keeps { IfTold (S.left source.old) (S.left source.new) (λ bytes _. AreBytes bytes → OnOk result (Keeps range.first range.last (K.taken sink.old) (K.taken sink.new) bytes)) }
+    ensures keeps { IfTold (S.left source.old) (S.left source.new) (λ bytes _. OnOk result (Keeps range.first range.last (K.taken sink.old) (K.taken sink.new) bytes)) }
     ensures read_fault { result ≡ Err Stop.ReadFault → Rose (S.faults source.old) (S.faults source.new) }
     ensures write_fault { result ≡ Err Stop.WriteFault → Rose (K.faults sink.old) (K.faults sink.new) }
     ensures later { (S.faults source.old ≤ S.faults source.new) × (K.faults sink.old ≤ K.faults sink.new) }
@@ -124,7 +123,7 @@ pub(crate) fn run_command<S: Source, K: Sink>(
 ) -> Result<(), Stop>
     requires { Fits command }
     ensures ends { IfTold (S.left source.old) (S.left source.new) (Ends command (K.taken sink.old) (K.taken sink.new) result) }
-    ensures keeps { (range : Range) → command ≡ Trim range → IfTold (S.left source.old) (S.left source.new) (λ bytes _. AreBytes bytes → OnOk result (Keeps range.first range.last (K.taken sink.old) (K.taken sink.new) bytes)) }
+    ensures keeps { (range : Range) → command ≡ Trim range → IfTold (S.left source.old) (S.left source.new) (λ bytes _. OnOk result (Keeps range.first range.last (K.taken sink.old) (K.taken sink.new) bytes)) }
     ensures unread { ¬ Reads command → source.new ≡ source.old }
     ensures alone { ¬ Reads command → EndsAlone command (K.taken sink.old) (K.taken sink.new) result }
     ensures info { command ≡ Info → IfErr result MissesNone }

@@ -4,7 +4,6 @@ ghost use Rattle.std.specs.Io.KnownBytes.{Appends};
 ghost use Rattle.gfx_io.specs.Causes.{Rose};
 ghost use Rattle.gfx_io.specs.Pieces.{AppendsPart};
 ghost use Rattle.gfx_io.specs.Told.{IfTold, IsTold};
-ghost use Rattle.gfx_grammar.specs.Reads.{AreBytes};
 ghost use Rattle.gfx_words.specs.declared.range.FrameRange.{FrameRange};
 ghost use Rattle.gfx_words.specs.declared.command.Command.TheVariants.{Info, Trim};
 ghost use Rattle.gfx_trim.specs.Keeps.{Keeps};
@@ -55,7 +54,7 @@ pub fn run_files<S: Source, K: Sink, N: Sink>(
 
     // Of a file that was cut, the sink took one that ends cleanly and whose frames are exactly those of the range.
     ensures keeps { result ≡ Status.Done → (range : FrameRange) → IsNamed (map string_bytes words.now) (Trim range) → IfTold (S.left source.old) (S.left source.new)
-        (λ bytes _. AreBytes bytes → Keeps range.first range.last (K.taken sink.old) (K.taken sink.new) bytes) }
+        (λ bytes _. Keeps range.first range.last (K.taken sink.old) (K.taken sink.new) bytes) }
     ensures complete { (command : Command) → IsNamed (map string_bytes words.now) command → IsTold (S.left source.old) → IfSome (S.left source.old) (IsGood command)
         → ¬ Rose (S.faults source.old) (S.faults source.new) → ¬ Rose (K.faults sink.old) (K.faults sink.new)
         → (result ≡ Status.Done) ⊎ (result ≡ Status.WantMemory) }
@@ -69,7 +68,7 @@ pub fn run_files<S: Source, K: Sink, N: Sink>(
         → ¬ Rose (S.faults source.old) (S.faults source.new) → ¬ Rose (K.faults sink.old) (K.faults sink.new) → ¬ Rose (N.faults notes.old) (N.faults notes.new)
         → (result ≡ Status.WantMemory) ⊎ ((result ≡ Status.BadFile) × Appends (N.taken notes.old) (N.taken notes.new) (bad_block_line fault block offset)) }
 
-    // A frame isn't there exactly where the file ends cleanly without it; the frames that are there are noted.
+    // A frame isn't there exactly where the file, which was read to its end, ends cleanly without it; the frames that are there are noted.
     ensures no_such_frame { result ≡ Status.NoSuchFrame → (first : ℕ) × (last : ℕ)
         × Runs (map string_bytes words.now) (S.left source.old) (S.left source.new) (K.taken sink.old) (K.taken sink.new) (Err (stop.NoSuchFrame first last))
         × Appends (N.taken notes.old) (N.taken notes.new) (no_such_frame_line first last) }
@@ -78,7 +77,8 @@ pub fn run_files<S: Source, K: Sink, N: Sink>(
         → ¬ Rose (S.faults source.old) (S.faults source.new) → ¬ Rose (K.faults sink.old) (K.faults sink.new) → ¬ Rose (N.faults notes.old) (N.faults notes.new)
         → (result ≡ Status.WantMemory) ⊎ ((result ≡ Status.NoSuchFrame) × Appends (N.taken notes.old) (N.taken notes.new) (no_such_frame_line first last)) }
 
-    // A fault of the source or of a sink is one that was counted in this call; after a failed read the sink has what stands before the place where reading stopped.
+    // A fault of the source or of a sink is one that was counted in this call; after a failed read the sink has what stands before the place where
+    // reading stopped, and nothing there stops the command.
     ensures read_fault { result ≡ Status.ReadFault → Rose (S.faults source.old) (S.faults source.new)
         × Runs (map string_bytes words.now) (S.left source.old) (S.left source.new) (K.taken sink.old) (K.taken sink.new) (Err stop.ReadFault)
         × Appends (N.taken notes.old) (N.taken notes.new) read_fault_line }

@@ -47,7 +47,7 @@ use Rattle.gfx_trim.specs.Cutters.{IsAfter, Ends, GoesOn, number_by, text_by}
 use Rattle.gfx_trim.specs.Keeps.{Keeps}
 use Rattle.gfx_trim.specs.Numbers.{IsOutside}
 use Rattle.gfx_trim.specs.Phases.{IsPhase}
-use Rattle.gfx_trim.specs.Trims.{Answers, IsBehindLast, IsDone, IsWithout, KeepsIfDone, trimmed}
+use Rattle.gfx_trim.specs.Trims.{Answers, IsBehindLast, IsDone, IsWithout, KeepsIfBytes, trimmed}
 use Rattle.gfx_trim.specs.Written.{has_effect, written, written_of}
 use Rattle.gfx_trim.proofs.Cutting.{quiet_reaches}
 use Rattle.gfx_trim.proofs.Growing.{grown, text_some, text_whole}
@@ -183,7 +183,7 @@ cut_more first last p mid q old new fed w file left rest before middle after c r
 
 -- an answer, and that the trimmed file keeps its frames
 abbrev pub Both : (first last : ℕ) → Option (List ℕ) → Option (List ℕ) → Result Unit PlayFault → List ℕ → List ℕ → Type 0
-Both first last before after r all left = Answers first last before after r all left × KeepsIfDone first last before after r all left
+Both first last before after r all left = Answers first last before after r all left × KeepsIfBytes first last before after r all left
 
 failed : (first last : ℕ) (before after : Option (List ℕ)) (why : PlayFault) (all left : List ℕ) → Answers first last before after (Err why) all left → Both first last before after (Err why) all left
 failed first last before after why all left a = (a, λ fit. tt)

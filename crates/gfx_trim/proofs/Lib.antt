@@ -8,3 +8,4 @@ pub mod Steps
 pub mod Stored
 pub mod Taking
 pub mod Files
+mod ToldBytes

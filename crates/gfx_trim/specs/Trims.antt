@@ -78,4 +78,8 @@ Answers first last before after (Err play.WantMemory) bytes left = AppendsPart b
 
 -- and the trimmed file keeps the frames
 abbrev pub KeepsIfDone : (first last : ℕ) → Option (List ℕ) → Option (List ℕ) → Result Unit PlayFault → List ℕ → List ℕ → Type 0
-KeepsIfDone first last before after result bytes left = AreBytes bytes → OnOk result (Keeps first last before after bytes)
+KeepsIfDone first last before after result bytes left = OnOk result (Keeps first last before after bytes)
+
+-- the same of any list of bytes
+abbrev pub KeepsIfBytes : (first last : ℕ) → Option (List ℕ) → Option (List ℕ) → Result Unit PlayFault → List ℕ → List ℕ → Type 0
+KeepsIfBytes first last before after result bytes left = AreBytes bytes → KeepsIfDone first last before after result bytes left

@@ -2,7 +2,7 @@
 ghost use Rattle.std.specs.Prelude.{◌≡◌, ◌≤◌, Err};
 ghost use Rattle.gfx_io.specs.Causes.{Rose};
 ghost use Rattle.gfx_io.specs.Told.{IfTold};
-ghost use Rattle.gfx_trim.specs.Trims.{Answers, KeepsIfDone};
+ghost use Rattle.gfx_trim.specs.Trims.{Answers, KeepsIfBytes, KeepsIfDone};
 
 use crate::cutter::Cutter;
 use gfx_io::{Sink, Source};
@@ -24,6 +24,24 @@ pub fn trim<S: Source, K: Sink>(
 
     // The file that the sink took means exactly these frames.
     ensures keeps { IfTold (S.left source.old) (S.left source.new) (KeepsIfDone first last (K.taken sink.old) (K.taken sink.new) result) }
+    ensures read_fault { result ≡ Err PlayFault.ReadFault → Rose (S.faults source.old) (S.faults source.new) }
+    ensures sink_fault { result ≡ Err PlayFault.SinkFault → Rose (K.faults sink.old) (K.faults sink.new) }
+    ensures later { (S.faults source.old ≤ S.faults source.new) × (K.faults sink.old ≤ K.faults sink.new) }
+{
+    cut_range(alloc, first, last, source, sink)
+}
+
+// What a source tells are bytes, which the loop doesn't ask for.
+fn cut_range<S: Source, K: Sink>(
+    alloc: Global,
+    first: u64,
+    last: u64,
+    source: &mut S,
+    sink: &mut K,
+) -> Result<(), PlayFault>
+    requires ordered { first ≤ last }
+    ensures told { IfTold (S.left source.old) (S.left source.new) (Answers first last (K.taken sink.old) (K.taken sink.new) result) }
+    ensures keeps { IfTold (S.left source.old) (S.left source.new) (KeepsIfBytes first last (K.taken sink.old) (K.taken sink.new) result) }
     ensures read_fault { result ≡ Err PlayFault.ReadFault → Rose (S.faults source.old) (S.faults source.new) }
     ensures sink_fault { result ≡ Err PlayFault.SinkFault → Rose (K.faults sink.old) (K.faults sink.new) }
     ensures later { (S.faults source.old ≤ S.faults source.new) × (K.faults sink.old ≤ K.faults sink.new) }

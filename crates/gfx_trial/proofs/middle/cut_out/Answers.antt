@@ -12,4 +12,4 @@ lacking-requires c =
 pub returns-in-Ok : goal.returns-in-Ok
 returns-in-Ok c = λ shown h.
     cut_has c.args.first c.args.last c.args.file.now shown c.requires.ordered h (λ i. omega (arith, c.type_inv.file i)) c.new-sink.result.taken c.trim.new.sink.taken
-    c.into_bytes.result.items (ap (λ s. s.taken) c.new-sink.ensures) c.into_bytes.ensures (c.in-Ok.ensures.keeps (λ i. omega (arith, c.type_inv.file i)))
+    c.into_bytes.result.items (ap (λ s. s.taken) c.new-sink.ensures) c.into_bytes.ensures c.in-Ok.ensures.keeps

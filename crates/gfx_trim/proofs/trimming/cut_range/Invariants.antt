@@ -2,7 +2,7 @@ use Rattle.std.proofs.Common.{◌≤◌, List}
 use Rattle.gfx_model.specs.Blocks.{Whole}
 use Rattle.gfx_decode.specs.Reachable.{IsBehind, blocks_ahead}
 use Rattle.gfx_trim.proofs.Files.{Cutting}
-use Rattle.gfx_trim.proofs.trimming.trim.Given as goal
+use Rattle.gfx_trim.proofs.trimming.cut_range.Given as goal
 
 abbrev pub invariant-reading : goal.invariant-reading
 invariant-reading g l =
