@@ -3,7 +3,10 @@ use Rattle.gfx_script_model.proofs.Opened.{all}
 use Rattle.gfx_model.specs.Events.Event.{AllocateCommandBuffers, CmdPipelineBarrier, CreateInstance, FillMemory, QueuePresentKHR, QueueSubmit}
 use Rattle.gfx_script_model.specs.Statements.{statement_tokens, tokens_of}
 use Rattle.std.proofs.Common.{arith}
-use Rattle.std.specs.Prelude.{[], codes, refl, ◌∷◌, ◌≡◌}
+use Rattle.std.specs.Prelude.{[], codes, refl, false, slice_get, unwrap_or, zero, suc, ◌∷◌, ◌||◌, ◌≡◌}
+use Prim.Native.String.{String}
+use Rattle.gfx_script_model.specs.Ids.{map_ids}
+use Rattle.gfx_script_model.specs.Names.{code, is_code, name_of}
 use Rattle.gfx_script_model.specs.Statements.{IsStatement}
 use Rattle.gfx_model.specs.Events.Event.{DeviceWaitIdle}
 use Rattle.gfx_script_model.specs.Statements.Form.{skips, sets_version, begins_phase, begins_thread, states}
@@ -17,27 +20,45 @@ use Rattle.gfx_script_model.specs.Scripts.{Line, outcome_of}
 use Rattle.gfx_script_model.specs.Statements.{IsForm}
 use Rattle.gfx_model.specs.Events.Event.{DestroyInstance}
 
-ex_create : tokens_of (codes "inst = vkCreateInstance  api=4194304 ") ≡ statement_tokens 1 (codes "inst" ∷ []) (CreateInstance 1 4194304)
+-- the id that a name stands for
+abbrev id : String → ℕ
+id name = code (codes name)
+
+-- a name of 32 bytes comes back from its code, and one of 33 bytes is none
+ex_name_32 : name_of (id "a_name_of_thirty_two_letters_abc") ≡ codes "a_name_of_thirty_two_letters_abc"
+unfolding all
+ex_name_32 = refl
+
+ex_name_33 : is_code (id "a_name_of_thirty_three_letters_ab") ≡ false
+unfolding all
+ex_name_33 = refl
+
+-- 0 is no name, nor is a word that begins with a digit
+ex_no_name : is_code 0 || is_code (id "0a") ≡ false
+unfolding all
+ex_no_name = refl
+
+ex_create : tokens_of (codes "inst = vkCreateInstance  api=4194304 ") ≡ statement_tokens 1 (CreateInstance (id "inst") 4194304)
 unfolding all
 ex_create = refl
 
-ex_barrier : tokens_of (codes "vkCmdPipelineBarrier cb=cb barriers=[(img,0,7)]") ≡ statement_tokens 1 (codes "cb" ∷ codes "img" ∷ []) (CmdPipelineBarrier 1 (record { image = 2; before = 0; after = 7 } ∷ []))
+ex_barrier : tokens_of (codes "vkCmdPipelineBarrier cb=cb barriers=[(img,0,7)]") ≡ statement_tokens 1 (CmdPipelineBarrier (id "cb") (record { image = id "img"; before = 0; after = 7 } ∷ []))
 unfolding all
 ex_barrier = refl
 
-ex_allocate : tokens_of (codes "a,b = vkAllocateCommandBuffers device=dev pool=p") ≡ statement_tokens 1 (codes "dev" ∷ codes "p" ∷ codes "a" ∷ codes "b" ∷ []) (AllocateCommandBuffers 1 2 (3 ∷ 4 ∷ []))
+ex_allocate : tokens_of (codes "a,b = vkAllocateCommandBuffers device=dev pool=p") ≡ statement_tokens 1 (AllocateCommandBuffers (id "dev") (id "p") (id "a" ∷ id "b" ∷ []))
 unfolding all
 ex_allocate = refl
 
-ex_submit : tokens_of (codes "vkQueueSubmit queue=q submits=[([],[cb],[])] fence=0") ≡ statement_tokens 1 (codes "q" ∷ codes "cb" ∷ []) (QueueSubmit 1 (record { waits = []; cbs = 2 ∷ []; signals = [] } ∷ []) 0)
+ex_submit : tokens_of (codes "vkQueueSubmit queue=q submits=[([],[cb],[])] fence=0") ≡ statement_tokens 1 (QueueSubmit (id "q") (record { waits = []; cbs = id "cb" ∷ []; signals = [] } ∷ []) 0)
 unfolding all
 ex_submit = refl
 
-ex_write : tokens_of (codes "write memory=mem offset=0 bytes=616263") ≡ statement_tokens 1 (codes "mem" ∷ []) (FillMemory 1 0 (97 ∷ 98 ∷ 99 ∷ []))
+ex_write : tokens_of (codes "write memory=mem offset=0 bytes=616263") ≡ statement_tokens 1 (FillMemory (id "mem") 0 (97 ∷ 98 ∷ 99 ∷ []))
 unfolding all
 ex_write = refl
 
-ex_present : tokens_of (codes "vkQueuePresentKHR queue=q waits=[] swapchain=sc index=0") ≡ statement_tokens 1 (codes "q" ∷ codes "sc" ∷ []) (QueuePresentKHR 1 [] (record { swapchain = 2; index = 0 } ∷ []))
+ex_present : tokens_of (codes "vkQueuePresentKHR queue=q waits=[] swapchain=sc index=0") ≡ statement_tokens 1 (QueuePresentKHR (id "q") [] (record { swapchain = id "sc"; index = 0 } ∷ []))
 unfolding all
 ex_present = refl
 
@@ -71,13 +92,13 @@ ex_version_twice = (
   (refuses structure, (sets_version, refl, refl), refl),
 )
 
-one_name : IsStatement 1 (tokens_of (codes "a = vkCreateInstance api=1")) (codes "a" ∷ []) (CreateInstance 1 1)
+one_name : IsStatement 1 (tokens_of (codes "a = vkCreateInstance api=1")) (CreateInstance (id "a") 1)
 unfolding all
-one_name = record { written = refl; named = refl; numbered = refl; version = tt; fits = (omega arith, (omega arith, tt)); same = refl }
+one_name = record { written = refl; fits = (refl, (omega arith, tt)); version = tt; same = refl }
 
-wait_for_d : IsStatement 1 (tokens_of (codes "vkDeviceWaitIdle device=d")) (codes "d" ∷ []) (DeviceWaitIdle 1)
+wait_for_d : IsStatement 1 (tokens_of (codes "vkDeviceWaitIdle device=d")) (DeviceWaitIdle (id "d"))
 unfolding all
-wait_for_d = record { written = refl; named = refl; numbered = refl; version = tt; fits = (omega arith, tt); same = refl }
+wait_for_d = record { written = refl; fits = (refl, tt); version = tt; same = refl }
 
 begun : Reading
 begun = record { minor = 1; phases = (record { thread = 0; lines = [] } ∷ []) ∷ []; names = [] }
@@ -100,8 +121,8 @@ ex_taken = (
     (begins_thread 0, (omega arith, refl), refl),
     (
       Outcome.reads defined,
-      (states (codes "a" ∷ []) (CreateInstance 1 1), one_name, refl),
-      (refuses name_taken, (states (codes "a" ∷ []) (CreateInstance 1 1), one_name, refl), refl),
+      (states (CreateInstance (id "a") 1), one_name, refl),
+      (refuses name_taken, (states (CreateInstance (id "a") 1), one_name, refl), refl),
     ),
   ),
 )
@@ -112,7 +133,7 @@ unfolding all
 ex_structure = (
   Outcome.reads (record { minor = 1; phases = [] ∷ []; names = [] }),
   (begins_phase, refl, refl),
-  (refuses structure, (states (codes "d" ∷ []) (DeviceWaitIdle 1), wait_for_d, refl), refl),
+  (refuses structure, (states (DeviceWaitIdle (id "d")), wait_for_d, refl), refl),
 )
 
 ex_no_phase : Parses (codes "thread 0") (fails 1 structure)
@@ -127,7 +148,7 @@ ex_unknown = (
   (
     Outcome.reads begun,
     (begins_thread 0, (omega arith, refl), refl),
-    (refuses name_unknown, (states (codes "d" ∷ []) (DeviceWaitIdle 1), wait_for_d, refl), refl),
+    (refuses name_unknown, (states (DeviceWaitIdle (id "d")), wait_for_d, refl), refl),
   ),
 )
 
@@ -136,7 +157,7 @@ unfolding all
 ex_byte = (refuses bad_byte, refl, refl)
 
 -- the present of a script in version 2
-ex_present_2 : tokens_of (codes "vkQueuePresentKHR queue=q waits=[] presents=[(sc,0)]") ≡ statement_tokens 2 (codes "q" ∷ codes "sc" ∷ []) (QueuePresentKHR 1 [] (record { swapchain = 2; index = 0 } ∷ []))
+ex_present_2 : tokens_of (codes "vkQueuePresentKHR queue=q waits=[] presents=[(sc,0)]") ≡ statement_tokens 2 (QueuePresentKHR (id "q") [] (record { swapchain = id "sc"; index = 0 } ∷ []))
 unfolding all
 ex_present_2 = refl
 
@@ -144,7 +165,12 @@ ex_present_2 = refl
 names_of_f1 : List (List ℕ)
 names_of_f1 = codes "inst" ∷ codes "surf" ∷ codes "dev" ∷ codes "q" ∷ codes "sc" ∷ codes "img" ∷ codes "f" ∷ codes "mem" ∷ codes "buf" ∷ codes "pool" ∷ codes "cb" ∷ []
 
-ex_statements : map (statement_tokens 1 names_of_f1) f1 ≡ map tokens_of (
+-- the code of the name with this number, and 0 for 0
+name_code : ℕ → ℕ
+name_code zero = 0
+name_code (suc k) = code (unwrap_or (slice_get names_of_f1 k) [])
+
+ex_statements : map (λ e. statement_tokens 1 (map_ids name_code e)) f1 ≡ map tokens_of (
     codes "inst = vkCreateInstance api=4194304" ∷
     codes "surf = vkCreateHeadlessSurfaceEXT instance=inst" ∷
     codes "dev = vkCreateDevice instance=inst" ∷
@@ -167,7 +193,7 @@ ex_statements : map (statement_tokens 1 names_of_f1) f1 ≡ map tokens_of (
     codes "vkAcquireNextImageKHR device=dev swapchain=sc semaphore=0 fence=f index=0 answer=0" ∷
     codes "vkQueueSubmit queue=q submits=[([],[cb],[])] fence=0" ∷
     codes "vkQueuePresentKHR queue=q waits=[] swapchain=sc index=0" ∷ [])
-unfolding all names_of_f1
+unfolding all names_of_f1 name_code
 ex_statements = refl
 
 -- thread numbers end at 63
@@ -175,9 +201,9 @@ ex_thread_64 : IsForm 1 (tokens_of (codes "thread 64")) (begins_thread 64) → �
 ex_thread_64 f = absurd (omega (arith, f.0))
 
 -- a name of another thread is known in the next phase, and not in the same one
-one_end : IsStatement 1 (tokens_of (codes "vkDestroyInstance instance=a")) (codes "a" ∷ []) (DestroyInstance 1)
+one_end : IsStatement 1 (tokens_of (codes "vkDestroyInstance instance=a")) (DestroyInstance (id "a"))
 unfolding all
-one_end = record { written = refl; named = refl; numbered = refl; version = tt; fits = (omega arith, tt); same = refl }
+one_end = record { written = refl; fits = (refl, tt); version = tt; same = refl }
 
 ex_same_phase : Parses (codes "phase\nthread 0\na = vkCreateInstance api=1\nthread 1\nvkDestroyInstance instance=a") (fails 5 name_unknown)
 unfolding all begun defined
@@ -189,11 +215,11 @@ ex_same_phase = (
     (begins_thread 0, (omega arith, refl), refl),
     (
       Outcome.reads defined,
-      (states (codes "a" ∷ []) (CreateInstance 1 1), one_name, refl),
+      (states (CreateInstance (id "a") 1), one_name, refl),
       (
         outcome_of 4 defined (begins_thread 1),
         (begins_thread 1, (omega arith, refl), refl),
-        (refuses name_unknown, (states (codes "a" ∷ []) (DestroyInstance 1), one_end, refl), refl),
+        (refuses name_unknown, (states (DestroyInstance (id "a")), one_end, refl), refl),
       ),
     ),
   ),
@@ -222,14 +248,14 @@ ex_next_phase = (
     (begins_thread 0, (omega arith, refl), refl),
     (
       Outcome.reads defined,
-      (states (codes "a" ∷ []) (CreateInstance 1 1), one_name, refl),
+      (states (CreateInstance (id "a") 1), one_name, refl),
       (
         Outcome.reads third,
         (begins_phase, refl, refl),
         (
           Outcome.reads fourth,
           (begins_thread 1, (omega arith, refl), refl),
-          (outcome_of 6 fourth (states (codes "a" ∷ []) (DestroyInstance 1)), (states (codes "a" ∷ []) (DestroyInstance 1), one_end, refl), refl),
+          (outcome_of 6 fourth (states (DestroyInstance (id "a"))), (states (DestroyInstance (id "a")), one_end, refl), refl),
         ),
       ),
     ),

@@ -1,6 +1,6 @@
--- The text of fields. An id may be shown by any text.
-use Rattle.std.specs.Prelude.{ℕ, List, [], ◌∷◌, ◌++◌, map, codes, decimal}
-use Rattle.std.specs.List.{join_with_byte}
+-- The text of fields, and which fields have one. An id may be shown by any text.
+use Rattle.std.specs.Prelude.{◌≡◌, ◌<◌, ◌≤◌, ◌^◌, ℕ, Bool, true, List, [], ◌∷◌, ◌++◌, map, length, codes, decimal}
+use Rattle.std.specs.List.{AllByRecursion, join_with_byte}
 use Rattle.gfx_types.specs.declared.lists.Submit.{Submit}
 use Rattle.gfx_model.specs.Text.{hex_text}
 use Rattle.gfx_model.specs.Fields.{Atom, Value, Named, atoms_of}
@@ -43,3 +43,49 @@ value_text show (submitted ss) = list_text (map (submit_text show) ss)
 -- field=value
 abbrev pub field_text : (ℕ → List ℕ) → Named → List ℕ
 field_text show f = f.name ++ codes "=" ++ value_text show f.value
+
+-- ---- which fields have a text
+
+-- How ids are written: the text of an id, which ids have one, and which have one in a field that may name none. What a call
+-- creates may stand apart from its fields, left of them.
+pub record IdStyle : Type 0 where
+  pub show : ℕ → List ℕ
+  pub is_id : ℕ → Bool
+  pub is_maybe : ℕ → Bool
+  pub apart : Bool
+
+-- the id has a text
+abbrev pub IdFits : IdStyle → ℕ → Type 0
+IdFits s n = s.is_id n ≡ true
+
+-- a value in a record
+abbrev pub AtomFits : IdStyle → Atom → Type 0
+AtomFits s (an_id n) = IdFits s n
+AtomFits s (a_wide n) = n < 2 ^ 64
+AtomFits s (a_short n) = n < 2 ^ 32
+
+-- a list with few enough items, each of which fits
+abbrev pub ListFits : {X : Type 0} → (X → Type 0) → List X → Type 0
+ListFits fits xs = (length xs < 2 ^ 32) × AllByRecursion fits xs
+
+-- a submit: its waits, command buffers and signals
+abbrev pub SubmitFits : IdStyle → Submit → Type 0
+SubmitFits s x = ListFits (IdFits s) x.waits × (ListFits (IdFits s) x.cbs × ListFits (IdFits s) x.signals)
+
+-- the value has a text: its ids do, and its numbers, bytes and lists fit; what stands apart is at least one id
+abbrev pub ValueFits : IdStyle → Value → Type 0
+ValueFits s (names n) = IdFits s n
+ValueFits s (makes n) = IdFits s n
+ValueFits s (maybe n) = s.is_maybe n ≡ true
+ValueFits s (wide n) = n < 2 ^ 64
+ValueFits s (short n) = n < 2 ^ 32
+ValueFits s (raw bytes) = (length bytes < 2 ^ 64) × AllByRecursion (λ b. b < 256) bytes
+ValueFits s (names_each xs) = ListFits (IdFits s) xs
+ValueFits s (makes_each xs) = (s.apart ≡ true → 1 ≤ length xs) × ListFits (IdFits s) xs
+ValueFits s (shorts xs) = ListFits (λ n. n < 2 ^ 32) xs
+ValueFits s (records rs) = ListFits (AllByRecursion (AtomFits s)) (atoms_of rs)
+ValueFits s (submitted xs) = ListFits (SubmitFits s) xs
+
+-- each field has a text
+abbrev pub FieldsFit : IdStyle → List Named → Type 0
+FieldsFit s fs = AllByRecursion (λ f. ValueFits s f.value) fs

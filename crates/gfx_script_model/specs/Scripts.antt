@@ -5,7 +5,8 @@ use Rattle.gfx_model.specs.Limits.{max_line, max_lines, max_script, max_phases}
 use Rattle.gfx_model.specs.Events.{Event}
 use Rattle.gfx_model.specs.Checks.{same_list}
 use Rattle.gfx_script_model.specs.Ids.{uses_of, defines_of, map_ids}
-use Rattle.gfx_script_model.specs.Statements.{Form, IsForm, lines_of, tokens_of, is_empty, show}
+use Rattle.gfx_script_model.specs.Names.{name_of}
+use Rattle.gfx_script_model.specs.Statements.{Form, IsForm, lines_of, tokens_of, is_empty}
 use Rattle.gfx_script_model.specs.Statements.Form.{skips, sets_version, begins_phase, begins_thread, states}
 
 -- ---- what has been read
@@ -14,7 +15,7 @@ use Rattle.gfx_script_model.specs.Statements.Form.{skips, sets_version, begins_p
 pub data Kind : Type 0 where
   bad_byte line_too_long too_many bad_line structure name_unknown name_taken : Kind
 
--- a line, its ids being numbers of names
+-- a line, its ids being numbers of names, from 1 on in the order in which the script defines them
 pub record Line : Type 0 where
   pub number : ℕ
   pub event : Event
@@ -60,7 +61,7 @@ abbrev pub repeats : List (List ℕ) → Bool
 repeats [] = false
 repeats (t ∷ ts) = list_any (same_list t) ts || repeats ts
 
--- the numbers that stand for a name
+-- the codes of names
 abbrev pub without_0 : List ℕ → List ℕ
 without_0 ks = filter (λ k. not (k == 0)) ks
 
@@ -68,9 +69,9 @@ without_0 ks = filter (λ k. not (k == 0)) ks
 abbrev pub define : ℕ → ℕ → List Defined → List (List ℕ) → List Defined
 define phase thread defined texts = defined ++ map (λ t. record { name = t; phase = phase; thread = thread }) texts
 
--- the numbers of the whole script for those of one line
-abbrev pub renumber : List Defined → List (List ℕ) → ℕ → ℕ
-renumber defined names k = if k == 0 then 0 else unwrap_or (number_of (λ d. true) defined (show names k)) 0
+-- the number of the name whose code this is
+abbrev pub renumber : List Defined → ℕ → ℕ
+renumber defined k = if k == 0 then 0 else unwrap_or (number_of (λ d. true) defined (name_of k)) 0
 
 -- ---- one line
 
@@ -94,13 +95,13 @@ begin_thread n r (parts ∷ phases) =
     else reads (record r { phases = (record { thread = n; lines = [] } ∷ parts) ∷ phases })
 
 -- a statement of a thread in a phase: its names are known, and what it defines is new
-abbrev pub add_line : ℕ → List (List ℕ) → Event → Reading → Part → List Part → List (List Part) → Outcome
-add_line number names e r part parts phases =
+abbrev pub add_line : ℕ → Event → Reading → Part → List Part → List (List Part) → Outcome
+add_line number e r part parts phases =
     let at = length phases + 1 in
-    let texts = map (show names) (defines_of r.minor e) in
+    let texts = map name_of (defines_of r.minor e) in
     let defined = define at part.thread r.names texts in
-    let line : Line = record { number = number; event = map_ids (renumber defined names) e } in
-    let used = map (show names) (without_0 (uses_of r.minor e)) in
+    let line : Line = record { number = number; event = map_ids (renumber defined) e } in
+    let used = map name_of (without_0 (uses_of r.minor e)) in
     if not (list_all (is_known r.names (may_use at part.thread)) used) then refuses name_unknown
     else (if list_any (is_known r.names (λ d. true)) texts || repeats texts then refuses name_taken
     else reads (record {
@@ -110,10 +111,10 @@ add_line number names e r part parts phases =
     }))
 
 -- a statement stands under a thread
-abbrev pub add_statement : ℕ → List (List ℕ) → Event → Reading → List (List Part) → Outcome
-add_statement number names e r [] = refuses structure
-add_statement number names e r ([] ∷ phases) = refuses structure
-add_statement number names e r ((part ∷ parts) ∷ phases) = add_line number names e r part parts phases
+abbrev pub add_statement : ℕ → Event → Reading → List (List Part) → Outcome
+add_statement number e r [] = refuses structure
+add_statement number e r ([] ∷ phases) = refuses structure
+add_statement number e r ((part ∷ parts) ∷ phases) = add_line number e r part parts phases
 
 -- what a line of this form gives
 abbrev pub outcome_of : ℕ → Reading → Form → Outcome
@@ -121,7 +122,7 @@ outcome_of number r skips = reads r
 outcome_of number r sets_version = set_version r
 outcome_of number r begins_phase = reads (record r { phases = [] ∷ r.phases })
 outcome_of number r (begins_thread n) = begin_thread n r r.phases
-outcome_of number r (states names e) = add_statement number names e r r.phases
+outcome_of number r (states e) = add_statement number e r r.phases
 
 -- a printable byte
 abbrev pub is_printable : ℕ → Bool
