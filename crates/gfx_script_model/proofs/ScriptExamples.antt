@@ -2,7 +2,7 @@
 use Rattle.gfx_script_model.proofs.Opened.{all}
 use Rattle.gfx_model.specs.Events.Event.{AllocateCommandBuffers, CmdPipelineBarrier, CreateInstance, FillMemory, QueuePresentKHR, QueueSubmit}
 use Rattle.gfx_script_model.specs.Statements.{statement_tokens, tokens_of}
-use Rattle.std.proofs.Common.{arith}
+use Rattle.std.proofs.Common.{arith, inl}
 use Rattle.std.specs.Prelude.{[], codes, refl, false, slice_get, unwrap_or, zero, suc, ◌∷◌, ◌||◌, ◌≡◌}
 use Prim.Native.String.{String}
 use Rattle.gfx_script_model.specs.Ids.{map_ids}
@@ -68,11 +68,11 @@ ex_version_first : Parses (codes "# 2\nversion 2\nphase") (parses 2 ([] ∷ []))
 unfolding all
 ex_version_first = (
   Outcome.reads at_first,
-  (skips, refl, refl),
+  inl (skips, refl, refl),
   (
     Outcome.reads (record { minor = 2; phases = []; names = [] }),
-    (sets_version, refl, refl),
-    (Outcome.reads (record { minor = 2; phases = [] ∷ []; names = [] }), (begins_phase, refl, refl), refl),
+    inl (sets_version, refl, refl),
+    (Outcome.reads (record { minor = 2; phases = [] ∷ []; names = [] }), inl (begins_phase, refl, refl), refl),
   ),
 )
 
@@ -80,16 +80,16 @@ ex_version_late : Parses (codes "phase\nversion 2\n") (fails 2 structure)
 unfolding all
 ex_version_late = (
   Outcome.reads (record { minor = 1; phases = [] ∷ []; names = [] }),
-  (begins_phase, refl, refl),
-  (refuses structure, (sets_version, refl, refl), refl),
+  inl (begins_phase, refl, refl),
+  (refuses structure, inl (sets_version, refl, refl), refl),
 )
 
 ex_version_twice : Parses (codes "version 2\nversion 2") (fails 2 structure)
 unfolding all
 ex_version_twice = (
   Outcome.reads (record { minor = 2; phases = []; names = [] }),
-  (sets_version, refl, refl),
-  (refuses structure, (sets_version, refl, refl), refl),
+  inl (sets_version, refl, refl),
+  (refuses structure, inl (sets_version, refl, refl), refl),
 )
 
 one_name : IsStatement 1 (tokens_of (codes "a = vkCreateInstance api=1")) (CreateInstance (id "a") 1)
@@ -115,14 +115,14 @@ ex_taken : Parses (codes "phase\nthread 0\na = vkCreateInstance api=1\na = vkCre
 unfolding all begun defined
 ex_taken = (
   Outcome.reads (record { minor = 1; phases = [] ∷ []; names = [] }),
-  (begins_phase, refl, refl),
+  inl (begins_phase, refl, refl),
   (
     Outcome.reads begun,
-    (begins_thread 0, (omega arith, refl), refl),
+    inl (begins_thread 0, (omega arith, refl), refl),
     (
       Outcome.reads defined,
-      (states (CreateInstance (id "a") 1), one_name, refl),
-      (refuses name_taken, (states (CreateInstance (id "a") 1), one_name, refl), refl),
+      inl (states (CreateInstance (id "a") 1), one_name, refl),
+      (refuses name_taken, inl (states (CreateInstance (id "a") 1), one_name, refl), refl),
     ),
   ),
 )
@@ -132,23 +132,23 @@ ex_structure : Parses (codes "phase\nvkDeviceWaitIdle device=d") (fails 2 struct
 unfolding all
 ex_structure = (
   Outcome.reads (record { minor = 1; phases = [] ∷ []; names = [] }),
-  (begins_phase, refl, refl),
-  (refuses structure, (states (DeviceWaitIdle (id "d")), wait_for_d, refl), refl),
+  inl (begins_phase, refl, refl),
+  (refuses structure, inl (states (DeviceWaitIdle (id "d")), wait_for_d, refl), refl),
 )
 
 ex_no_phase : Parses (codes "thread 0") (fails 1 structure)
 unfolding all
-ex_no_phase = (refuses structure, (begins_thread 0, (omega arith, refl), refl), refl)
+ex_no_phase = (refuses structure, inl (begins_thread 0, (omega arith, refl), refl), refl)
 
 ex_unknown : Parses (codes "phase\nthread 0\nvkDeviceWaitIdle device=d") (fails 3 name_unknown)
 unfolding all begun
 ex_unknown = (
   Outcome.reads (record { minor = 1; phases = [] ∷ []; names = [] }),
-  (begins_phase, refl, refl),
+  inl (begins_phase, refl, refl),
   (
     Outcome.reads begun,
-    (begins_thread 0, (omega arith, refl), refl),
-    (refuses name_unknown, (states (DeviceWaitIdle (id "d")), wait_for_d, refl), refl),
+    inl (begins_thread 0, (omega arith, refl), refl),
+    (refuses name_unknown, inl (states (DeviceWaitIdle (id "d")), wait_for_d, refl), refl),
   ),
 )
 
@@ -209,17 +209,17 @@ ex_same_phase : Parses (codes "phase\nthread 0\na = vkCreateInstance api=1\nthre
 unfolding all begun defined
 ex_same_phase = (
   Outcome.reads (record { minor = 1; phases = [] ∷ []; names = [] }),
-  (begins_phase, refl, refl),
+  inl (begins_phase, refl, refl),
   (
     Outcome.reads begun,
-    (begins_thread 0, (omega arith, refl), refl),
+    inl (begins_thread 0, (omega arith, refl), refl),
     (
       Outcome.reads defined,
-      (states (CreateInstance (id "a") 1), one_name, refl),
+      inl (states (CreateInstance (id "a") 1), one_name, refl),
       (
         outcome_of 4 defined (begins_thread 1),
-        (begins_thread 1, (omega arith, refl), refl),
-        (refuses name_unknown, (states (DestroyInstance (id "a")), one_end, refl), refl),
+        inl (begins_thread 1, (omega arith, refl), refl),
+        (refuses name_unknown, inl (states (DestroyInstance (id "a")), one_end, refl), refl),
       ),
     ),
   ),
@@ -242,20 +242,20 @@ ex_next_phase : Parses (codes "phase\nthread 0\na = vkCreateInstance api=1\nphas
 unfolding all begun defined third fourth made_in_0 ended_in_1
 ex_next_phase = (
   Outcome.reads (record { minor = 1; phases = [] ∷ []; names = [] }),
-  (begins_phase, refl, refl),
+  inl (begins_phase, refl, refl),
   (
     Outcome.reads begun,
-    (begins_thread 0, (omega arith, refl), refl),
+    inl (begins_thread 0, (omega arith, refl), refl),
     (
       Outcome.reads defined,
-      (states (CreateInstance (id "a") 1), one_name, refl),
+      inl (states (CreateInstance (id "a") 1), one_name, refl),
       (
         Outcome.reads third,
-        (begins_phase, refl, refl),
+        inl (begins_phase, refl, refl),
         (
           Outcome.reads fourth,
-          (begins_thread 1, (omega arith, refl), refl),
-          (outcome_of 6 fourth (states (DestroyInstance (id "a"))), (states (DestroyInstance (id "a")), one_end, refl), refl),
+          inl (begins_thread 1, (omega arith, refl), refl),
+          (outcome_of 6 fourth (states (DestroyInstance (id "a"))), inl (states (DestroyInstance (id "a")), one_end, refl), refl),
         ),
       ),
     ),

@@ -1,5 +1,5 @@
 -- The script language: the version, phases, threads and lines of a text, or the first line with a fault.
-use Rattle.std.specs.Prelude.{◌≡◌, ℕ, ◌+◌, min, ◌==◌, nat_lt, nat_le, Bool, true, false, not, ◌&&◌, ◌||◌, if◌then◌else◌, List, [], ◌∷◌, ◌++◌, map, filter, reverse, length, Option, Some, None, is_some, unwrap_or, codes}
+use Rattle.std.specs.Prelude.{◌≡◌, ◌⊎◌, ℕ, ◌+◌, min, ◌==◌, nat_lt, nat_le, Bool, true, false, not, ◌&&◌, ◌||◌, if◌then◌else◌, List, [], ◌∷◌, ◌++◌, map, filter, reverse, length, Option, Some, None, is_some, unwrap_or, codes}
 use Rattle.std.specs.List.{list_any, list_all, position_from}
 use Rattle.gfx_model.specs.Limits.{max_line, max_lines, max_script, max_phases}
 use Rattle.gfx_model.specs.Events.{Event}
@@ -142,12 +142,12 @@ early_fault number through r line =
     then Some too_many
     else None))
 
--- without an early fault: the outcome of the line's form, and bad_line where it has none
+-- a line gives its early fault; without one what its form gives, and bad_line where it has none
 abbrev pub IsLateOutcome : ℕ → Reading → List ℕ → Option Kind → Outcome → Type 0
-IsLateOutcome number r line (Some k) (refuses kind) = kind ≡ k
-IsLateOutcome number r line (Some k) (reads next) = ⊥
-IsLateOutcome number r line None (refuses bad_line) = (f : Form) → IsForm r.minor (tokens_of line) f → ⊥
-IsLateOutcome number r line None outcome = (f : Form) × IsForm r.minor (tokens_of line) f × (outcome ≡ outcome_of number r f)
+IsLateOutcome number r line (Some k) outcome = outcome ≡ refuses k
+IsLateOutcome number r line None outcome =
+    ((f : Form) × IsForm r.minor (tokens_of line) f × (outcome ≡ outcome_of number r f))
+    ⊎ (((f : Form) → IsForm r.minor (tokens_of line) f → ⊥) × (outcome ≡ refuses bad_line))
 
 -- what a line gives
 abbrev pub IsOutcome : ℕ → ℕ → Reading → List ℕ → Outcome → Type 0
