@@ -1,0 +1,12 @@
+pub mod Words
+pub mod Reading
+pub mod Reads
+pub mod FieldReading
+pub mod Rows
+pub mod Styles
+pub mod Splits
+pub mod Lines
+pub mod Listings
+pub mod StatementReading
+pub mod Parsing
+pub mod Laws
