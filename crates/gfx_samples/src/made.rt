@@ -223,11 +223,7 @@ impl Made {
     }
 
     /// Copies inside the buffer, one after the other.
-    pub fn copy_twice(
-        &mut self,
-        first: BufferRegion,
-        second: BufferRegion,
-    ) -> Result<(), Fail> {
+    pub fn copy_twice(&mut self, first: BufferRegion, second: BufferRegion) -> Result<(), Fail> {
         let regions = BufferRegions::of(vec![in self.alloc; first, second]?);
         self.call(Call::CmdCopyBuffer {
             cb: 11,

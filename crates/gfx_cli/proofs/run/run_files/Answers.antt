@@ -164,19 +164,18 @@ pub returns-in-Ok-clause-alone : goal.returns-in-Ok-clause-alone
 returns-in-Ok-clause-alone g c other named reads =
     let same = c.in-Some.ensures.only other named in
     let ends : EndsAlone other (g.K.Sink.taken c.args.sink.now) (g.K.Sink.taken c.run_command.new.sink) (Ok tt) =
-      subst (λ k. ¬ Reads k → EndsAlone k (g.K.Sink.taken c.args.sink.now) (g.K.Sink.taken c.run_command.new.sink) (Ok tt)) (sym same) c.in-Ok.ensures.alone reads in
+    subst (λ k. ¬ Reads k → EndsAlone k (g.K.Sink.taken c.args.sink.now) (g.K.Sink.taken c.run_command.new.sink) (Ok tt)) (sym same) c.in-Ok.ensures.alone reads in
     (record { text = λ is. ends.text; front = ends.front; statuses = tt }, λ writes. inl refl)
 
 pub returns-in-Err-clause-alone : goal.returns-in-Err-clause-alone
 returns-in-Err-clause-alone g c other named reads =
     let same = c.in-Some.ensures.only other named in
     let ends : EndsAlone other (g.K.Sink.taken c.args.sink.now) (g.K.Sink.taken c.run_command.new.sink) (Err c.in-Err.stop) =
-      subst (λ k. ¬ Reads k → EndsAlone k (g.K.Sink.taken c.args.sink.now) (g.K.Sink.taken c.run_command.new.sink) (Err c.in-Err.stop)) (sym same) c.in-Err.ensures.alone reads in
-    (
+    subst (λ k. ¬ Reads k → EndsAlone k (g.K.Sink.taken c.args.sink.now) (g.K.Sink.taken c.run_command.new.sink) (Err c.in-Err.stop)) (sym same) c.in-Err.ensures.alone reads in (
       record {
         text = λ is.
-          let told = status_tells c.tell.result (status_of c.in-Err.stop) status.Done _ _ _ c.tell.ensures.ends is (λ e. absurd cc) (λ e. absurd cc) in
-          absurd ((stop_status c.in-Err.stop).0 told.0);
+            let told = status_tells c.tell.result (status_of c.in-Err.stop) status.Done _ _ _ c.tell.ensures.ends is (λ e. absurd cc) (λ e. absurd cc) in
+            absurd ((stop_status c.in-Err.stop).0 told.0);
         front = ends.front;
         statuses = text_status c.in-Err.stop c.tell.result _ _ _ ends.why c.tell.ensures.ends;
       },
