@@ -72,13 +72,9 @@ asked_front a (f ∷ fs) more = record {
 -- the frame that is shown is the last
 pub behind_last : (a : Asked) (shown : List Frame) (f : Frame) (bytes left : List ℕ) → IsBehindFrame shown f bytes left → has_last a shown ≡ false → has_last a (shown ++ f ∷ []) ≡ true → IsBehindLast a bytes left
 behind_last a shown f bytes left b before there = record {
-  head = b.head;
-  header = b.header;
   fed = b.fed;
   block = b.block;
-  later = b.later;
-  blocks = b.blocks;
-  parts = b.parts;
+  through = b.through;
   before = ap (has_last a) b.before ∙ before;
   there = ap (has_last a) b.there ∙ there;
 }

@@ -11,7 +11,7 @@ use Rattle.gfx_decode.specs.declared.decoder.Raw.{Raw}
 use Rattle.gfx_decode.specs.Stage.{Stage, Fresh, At, Failed}
 use Rattle.gfx_decode.specs.Decoding.{IsBlockAt, behind, coming, item_of, start_of}
 use Rattle.gfx_decode.specs.Reading.{IsHeader}
-use Rattle.gfx_player.specs.Fed.{ComesNext, IsFed, file_with}
+use Rattle.gfx_player.specs.Fed.{ComesNext, IsFed, IsReadThrough, file_with}
 use Rattle.gfx_decode.proofs.Finding.{here_comes}
 use Rattle.gfx_decode.proofs.Front.{behind_header}
 
@@ -52,6 +52,21 @@ fed_more fed w old new all left rest f comes took = record {
 -- the blocks of the file are those that were read, and those that the decoder finds in what is left
 pub fed_blocks : (fed : List Whole) (stage : Stage) (all rest : List ℕ) → IsFed fed stage all rest → blocks_of all ≡ with_items fed (coming stage rest)
 fed_blocks fed stage all rest f = ap blocks_of f.parts ∙ f.blocks rest
+
+-- the same, where one block more was read
+pub fed_with : (fed : List Whole) (w : Whole) (stage : Stage) (all rest : List ℕ) → IsFed (fed ++ w ∷ []) stage all rest → blocks_of all ≡ with_items fed (with_item w (coming stage rest))
+fed_with fed w stage all rest f =
+    fed_blocks (fed ++ w ∷ []) stage all rest f ∙ ap (λ ws. record { items = ws; end = (coming stage rest).end }) (append_assoc fed (w ∷ []) (coming stage rest).items)
+
+-- what is left follows the block that was read last
+pub read_through : (fed : List Whole) (w : Whole) (stage : Stage) (all rest : List ℕ) → IsFed (fed ++ w ∷ []) stage all rest → IsReadThrough fed w all rest
+read_through fed w stage all rest f = record {
+  head = f.head;
+  header = f.header;
+  later = (coming stage rest).items;
+  blocks = ap (λ (b : Blocks). b.items) (fed_with fed w stage all rest f);
+  parts = f.parts;
+}
 
 -- the next of them
 pub next_comes : (old new : Stage) (w : Whole) (left rest : List ℕ) → ComesNext old new w → left ≡ w.bytes ++ rest → coming old left ≡ with_item w (coming new rest)

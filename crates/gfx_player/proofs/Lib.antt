@@ -7,3 +7,4 @@ pub mod Walking
 pub mod Asking
 pub mod Later
 pub mod Playing
+pub mod ToldBytes

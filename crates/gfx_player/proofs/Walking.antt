@@ -44,7 +44,7 @@ use Rattle.gfx_player.specs.Faults.{IsReplayFault, IsWalkFault, of_decoder}
 use Rattle.gfx_player.specs.Fed.{IsUnfinished, IsFed, IsGiven, history_of}
 use Rattle.gfx_player.specs.Meanings.{first_of}
 use Rattle.gfx_player.specs.Walks.{HasAll, HasRead, HasReplayed, IsReadAlike, IsReplayedAlike, Plays, Refuses, Replays, ShowsNext, next_frame_of}
-use Rattle.gfx_player.proofs.Feeding.{block_comes, fed_blocks, fed_more, fed_none}
+use Rattle.gfx_player.proofs.Feeding.{block_comes, fed_blocks, fed_more, fed_none, fed_with, read_through}
 use Rattle.gfx_player.proofs.Judging.{judged_end, judged_fault, judged_given, longer}
 use Rattle.gfx_player.proofs.Stopping.{GivesNone, header_stops, stops_behind, told_stop}
 
@@ -196,11 +196,6 @@ read_alike old new fed file left same r = record {
       (λ all rest was. (subst (λ s. IsFed fed s all rest) (sym same.decoder) was.0, same.minor ∙ was.1));
 }
 
--- a block that was read and has a fault is the first bad one
-fed_with : (fed : List Whole) (w : Whole) (stage : Stage) (all rest : List ℕ) → IsFed (fed ++ w ∷ []) stage all rest → blocks_of all ≡ with_items fed (with_item w (coming stage rest))
-fed_with fed w stage all rest f =
-    fed_blocks (fed ++ w ∷ []) stage all rest f ∙ ap (λ ws. record { items = ws; end = (coming stage rest).end }) (append_assoc fed (w ∷ []) (coming stage rest).items)
-
 pub refused_stops : (old new : Player) (fed : List Whole) (w : Whole) (why : PlayFault) (file left : Option (List ℕ)) → HasReplayed old fed → HasRead new (fed ++ w ∷ []) file left →
     IsReplayFault why → Refuses (history_of fed) w why → IfTold file left (StopsBehind fed why)
 refused_stops old new fed w (play.Bad fault block offset) file left done r kind refuses =
@@ -283,17 +278,7 @@ plays_next old mid new shown file left rest w frame p read same few took =
       };
       there = took.shows.there;
       behind = told_if file rest _ (IsBehindFrame shown f) here.told
-          (λ all rest was. record {
-            head = was.0.head;
-            header = was.0.header;
-            fed = p.fed;
-            block = w;
-            later = (coming new.decoder rest).items;
-            blocks = ap (λ (b : Blocks). b.items) (fed_with p.fed w new.decoder all rest was.0);
-            parts = was.0.parts;
-            before = p.shows;
-            there = more;
-          });
+          (λ all rest was. record { fed = p.fed; block = w; through = read_through p.fed w new.decoder all rest was.0; before = p.shows; there = more });
     }
 
 -- the file was read to its end

@@ -4,9 +4,7 @@ use Rattle.std.specs.List.{list_any}
 use Rattle.gfx_types.specs.declared.frame.Frame.{Frame}
 use Rattle.gfx_model.specs.Blocks.{Whole}
 use Rattle.gfx_model.specs.Frames.{frames}
-use Rattle.gfx_grammar.specs.Framing.{IsHeader}
-use Rattle.gfx_grammar.specs.Splitting.{blocks_of}
-use Rattle.gfx_player.specs.Fed.{file_with, history_of}
+use Rattle.gfx_player.specs.Fed.{IsReadThrough, history_of}
 use Rattle.gfx_player.specs.Meanings.{first_of}
 use Rattle.gfx_player.specs.declared.asked.Asked.{Asked}
 use Rattle.gfx_player.specs.declared.asked.Asked.TheVariants as asked
@@ -29,14 +27,10 @@ is_last (asked.Between a b) first n = nat_le first a && n == b
 abbrev pub has_last : Asked → List Frame → Bool
 has_last a fs = list_any (λ f. is_last a (unwrap_or (first_of fs) 0) f.number) fs
 
--- what is left follows the header and the first blocks of the file, up to the one that shows the last frame
+-- what is left follows the block that shows the last frame
 pub record IsBehindLast (a : Asked) (bytes left : List ℕ) : Type 0 where
-  pub head : List ℕ
-  pub header : IsHeader head
   pub fed : List Whole
   pub block : Whole
-  pub later : List Whole
-  pub blocks : (blocks_of bytes).items ≡ fed ++ block ∷ later
-  pub parts : bytes ≡ file_with head (fed ++ block ∷ []) left
+  pub through : IsReadThrough fed block bytes left
   pub before : has_last a (frames (history_of fed)) ≡ false
   pub there : has_last a (frames (history_of (fed ++ block ∷ []))) ≡ true

@@ -4,11 +4,11 @@ use Rattle.gfx_types.specs.declared.frame.Frame.{Frame}
 use Rattle.gfx_model.specs.Blocks.{Whole, End, minor_of}
 use Rattle.gfx_model.specs.Blocks.End.{bad}
 use Rattle.gfx_model.specs.Frames.{frames}
-use Rattle.gfx_grammar.specs.Framing.{IsHeader, with_items}
+use Rattle.gfx_grammar.specs.Framing.{with_items}
 use Rattle.gfx_grammar.specs.Splitting.{Blocks, blocks_of}
 use Rattle.gfx_player.specs.declared.fault.PlayFault.{PlayFault}
 use Rattle.gfx_player.specs.declared.fault.PlayFault.TheVariants.{Bad, NoSuchFrame, ReadFault, SinkFault, WantMemory}
-use Rattle.gfx_player.specs.Fed.{IsUnfinished, IsGiven, file_with, history_of}
+use Rattle.gfx_player.specs.Fed.{IsUnfinished, IsGiven, IsReadThrough, history_of}
 use Rattle.gfx_player.specs.Meanings.{end_of, frames_in, history_in, valid_in}
 
 -- ---- by blocks
@@ -71,14 +71,10 @@ pub record IsStopped (shown : List Frame) (why : PlayFault) (bytes left : List �
   pub first : ShowsFirst shown bytes
   pub stops : StopsShowing shown why bytes left
 
--- what is left follows the header and the first blocks of a file, up to the one that shows this frame behind the others
+-- what is left follows the block that shows this frame behind the others
 pub record IsBehindFrame (shown : List Frame) (f : Frame) (bytes left : List ℕ) : Type 0 where
-  pub head : List ℕ
-  pub header : IsHeader head
   pub fed : List Whole
   pub block : Whole
-  pub later : List Whole
-  pub blocks : (blocks_of bytes).items ≡ fed ++ block ∷ later
-  pub parts : bytes ≡ file_with head (fed ++ block ∷ []) left
+  pub through : IsReadThrough fed block bytes left
   pub before : frames (history_of fed) ≡ shown
   pub there : frames (history_of (fed ++ block ∷ [])) ≡ shown ++ f ∷ []

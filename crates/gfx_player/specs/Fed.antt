@@ -1,5 +1,5 @@
 -- A file of which some blocks were read and taken.
-use Rattle.std.specs.Prelude.{◌≡◌, ◌⊎◌, ℕ, List, [], ◌++◌, flat_map}
+use Rattle.std.specs.Prelude.{◌≡◌, ◌⊎◌, ℕ, List, [], ◌∷◌, ◌++◌, flat_map}
 use Rattle.gfx_model.specs.Events.{Event}
 use Rattle.gfx_model.specs.Blocks.{Position, Whole, minor_of}
 use Rattle.gfx_model.specs.Meaning.{events_onto}
@@ -47,3 +47,11 @@ pub record IsGiven (fed : List Whole) (all left : List ℕ) : Type 0 where
   pub blocks : (blocks_of given).items ≡ fed
   pub cut : IsUnfinished fed given
   pub minor : (fed ≡ []) ⊎ (minor_of given ≡ minor_of all)
+
+-- what is left follows the header and the first blocks of a file: these, and behind them this one
+pub record IsReadThrough (fed : List Whole) (block : Whole) (bytes left : List ℕ) : Type 0 where
+  pub head : List ℕ
+  pub header : IsHeader head
+  pub later : List Whole
+  pub blocks : (blocks_of bytes).items ≡ fed ++ block ∷ later
+  pub parts : bytes ≡ file_with head (fed ++ block ∷ []) left

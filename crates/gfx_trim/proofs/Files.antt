@@ -36,7 +36,7 @@ use Rattle.gfx_player.specs.Ends.{BeginsWith, EndsBehind, StopsBehind}
 use Rattle.gfx_player.specs.Fed.{IsUnfinished, IsFed, file_with, history_of}
 use Rattle.gfx_player.specs.Meanings.{first_in, history_in, last_in, valid_from}
 use Rattle.gfx_player.specs.Walks.{HasRead, IsReadAlike, IsReplayedAlike, Refuses, first_frame_of, next_frame_of}
-use Rattle.gfx_player.proofs.Feeding.{fed_blocks}
+use Rattle.gfx_player.proofs.Feeding.{read_through}
 use Rattle.gfx_player.proofs.Judging.{judged_given, valid_on}
 use Rattle.gfx_player.proofs.Playing.{told_beside}
 use Rattle.gfx_player.proofs.Walking.{fed_begins, frames_with, history_more, read_alike, refused_stops, replayed_alike}
@@ -47,7 +47,7 @@ use Rattle.gfx_trim.specs.Cutters.{IsAfter, Ends, GoesOn, number_by, text_by}
 use Rattle.gfx_trim.specs.Keeps.{Keeps}
 use Rattle.gfx_trim.specs.Numbers.{IsOutside}
 use Rattle.gfx_trim.specs.Phases.{IsPhase}
-use Rattle.gfx_trim.specs.Trims.{Answers, IsBehindLast, IsDone, IsWithout, KeepsIfBytes, trimmed}
+use Rattle.gfx_trim.specs.Trims.{Answers, AnswersKeeping, IsBehindLast, IsDone, IsWithout, trimmed}
 use Rattle.gfx_trim.specs.Written.{has_effect, written, written_of}
 use Rattle.gfx_trim.proofs.Cutting.{quiet_reaches}
 use Rattle.gfx_trim.proofs.Growing.{grown, text_some, text_whole}
@@ -181,11 +181,7 @@ cut_more first last p mid q old new fed w file left rest before middle after c r
 
 -- ---- no further block is taken
 
--- an answer, and that the trimmed file keeps its frames
-abbrev pub Both : (first last : ℕ) → Option (List ℕ) → Option (List ℕ) → Result Unit PlayFault → List ℕ → List ℕ → Type 0
-Both first last before after r all left = Answers first last before after r all left × KeepsIfBytes first last before after r all left
-
-failed : (first last : ℕ) (before after : Option (List ℕ)) (why : PlayFault) (all left : List ℕ) → Answers first last before after (Err why) all left → Both first last before after (Err why) all left
+failed : (first last : ℕ) (before after : Option (List ℕ)) (why : PlayFault) (all left : List ℕ) → Answers first last before after (Err why) all left → AnswersKeeping first last before after (Err why) all left
 failed first last before after why all left a = (a, λ fit. tt)
 
 stops : (first last : ℕ) (fed : List Whole) (why : PlayFault) (before after : Option (List ℕ)) (all rest : List ℕ) → is_valid (history_of fed) ≡ true → IsOutside first last (history_of fed) →
@@ -213,17 +209,17 @@ stops first last fed play.WantMemory before after all rest valid far text s =
     front_of first last fed all before after s.begins valid (whole_part before after (written_of (minor_of all) first last fed) text)
 
 -- the header
-pub open_fails : (first last : ℕ) (why : PlayFault) (file rest taken : Option (List ℕ)) → first ≤ last → IfTold file rest (StopsBehind [] why) → IfTold file rest (Both first last taken taken (Err why))
+pub open_fails : (first last : ℕ) (why : PlayFault) (file rest taken : Option (List ℕ)) → first ≤ last → IfTold file rest (StopsBehind [] why) → IfTold file rest (AnswersKeeping first last taken taken (Err why))
 open_fails first last why file rest taken ordered told =
-    told_if file rest (StopsBehind [] why) (Both first last taken taken (Err why)) told
+    told_if file rest (StopsBehind [] why) (AnswersKeeping first last taken taken (Err why)) told
     (λ all rest s. failed first last taken taken why all rest
     (stops first last [] why taken taken all rest refl (none_outside first last ordered) (subst (Appends taken taken) (sym (text_none (minor_of all) first last)) (appends_none taken)) s))
 
 -- the next block
 pub next_fails : (first last : ℕ) (p : Player) (c : Cutter) (fed : List Whole) (why : PlayFault) (file left rest before after : Option (List ℕ)) → first ≤ last → Cutting first last p c fed file left before after →
-    IfTold file rest (StopsBehind fed why) → IfTold file rest (Both first last before after (Err why))
+    IfTold file rest (StopsBehind fed why) → IfTold file rest (AnswersKeeping first last before after (Err why))
 next_fails first last p c fed why file left rest before after ordered g told =
-    told_beside file left rest _ (StopsBehind fed why) (Both first last before after (Err why)) g.read.told told
+    told_beside file left rest _ (StopsBehind fed why) (AnswersKeeping first last before after (Err why)) g.read.told told
     (λ all left rest was s. failed first last before after why all rest
     (stops first last fed why before after all rest (valid_of first last p c fed file _ before after g) (outside_of first last p c fed file _ before after ordered g)
     (subst (Appends before after) (text_is first last (minor_of all) c fed g.first_is g.last_is (g.minor_is ∙ was.1)) g.text) s))
@@ -241,7 +237,7 @@ front_more first last p mid c fed w file left rest before middle after g read mi
 -- a block that is not taken, or not written whole
 pub take_fails : (first last : ℕ) (p mid : Player) (c : Cutter) (fed : List Whole) (w : Whole) (why : PlayFault) (file left rest before middle after : Option (List ℕ)) → first ≤ last →
     Cutting first last p c fed file left before middle → HasRead mid (fed ++ w ∷ []) file rest → mid.minor ≡ p.minor → Refuses (history_of fed) w why →
-    ((fault : Fault) (block offset : ℕ) → why ≡ play.Bad fault block offset → after ≡ middle) → AppendsPart before after (text_by c (fed ++ w ∷ [])) → IfTold file rest (Both first last before after (Err why))
+    ((fault : Fault) (block offset : ℕ) → why ≡ play.Bad fault block offset → after ≡ middle) → AppendsPart before after (text_by c (fed ++ w ∷ [])) → IfTold file rest (AnswersKeeping first last before after (Err why))
 take_fails first last p mid c fed w (play.Bad fault block offset) file left rest before middle after ordered g read minor refuses same part =
     next_fails first last p c fed (play.Bad fault block offset) file left rest before after ordered (record {
       stands = g.stands;
@@ -255,20 +251,20 @@ take_fails first last p mid c fed w (play.Bad fault block offset) file left rest
 take_fails first last p mid c fed w (play.NoSuchFrame low high) file left rest before middle after ordered g read minor refuses same part = absurd refuses
 take_fails first last p mid c fed w play.ReadFault file left rest before middle after ordered g read minor refuses same part = absurd refuses
 take_fails first last p mid c fed w play.SinkFault file left rest before middle after ordered g read minor refuses same part =
-    told_if file rest _ (Both first last before after (Err play.SinkFault)) (front_more first last p mid c fed w file left rest before middle after g read minor refuses part)
+    told_if file rest _ (AnswersKeeping first last before after (Err play.SinkFault)) (front_more first last p mid c fed w file left rest before middle after g read minor refuses part)
     (λ all rest part. failed first last before after play.SinkFault all rest part)
 take_fails first last p mid c fed w play.WantMemory file left rest before middle after ordered g read minor refuses same part =
-    told_if file rest _ (Both first last before after (Err play.WantMemory)) (front_more first last p mid c fed w file left rest before middle after g read minor refuses part)
+    told_if file rest _ (AnswersKeeping first last before after (Err play.WantMemory)) (front_more first last p mid c fed w file left rest before middle after g read minor refuses part)
     (λ all rest part. failed first last before after play.WantMemory all rest part)
 
 -- the clean end of the file
 pub file_ends : (first last : ℕ) (p q : Player) (c : Cutter) (fed : List Whole) (why : PlayFault) (file left rest before after : Option (List ℕ)) → first ≤ last → Cutting first last p c fed file left before after →
-    IsReplayedAlike p q → IfTold file rest (λ all rest. EndsBehind fed clean all × (rest ≡ [])) → why ≡ play.NoSuchFrame (first_frame_of q) (next_frame_of q - 1) → IfTold file rest (Both first last before after (Err why))
+    IsReplayedAlike p q → IfTold file rest (λ all rest. EndsBehind fed clean all × (rest ≡ [])) → why ≡ play.NoSuchFrame (first_frame_of q) (next_frame_of q - 1) → IfTold file rest (AnswersKeeping first last before after (Err why))
 file_ends first last p q c fed why file left rest before after ordered g same told is =
     let done = replayed_alike p q fed same g.stands.replayed in
     let next : next_frame_of q ≡ (view (history_of fed)).next_frame = ap (λ (v : View). v.next_frame) done.replays.stands.answers_same in
-    subst (λ e. IfTold file rest (Both first last before after (Err e))) (sym is)
-    (told_beside file left rest _ (λ all rest. EndsBehind fed clean all × (rest ≡ [])) (Both first last before after (Err (play.NoSuchFrame (first_frame_of q) (next_frame_of q - 1)))) g.read.told told
+    subst (λ e. IfTold file rest (AnswersKeeping first last before after (Err e))) (sym is)
+    (told_beside file left rest _ (λ all rest. EndsBehind fed clean all × (rest ≡ [])) (AnswersKeeping first last before after (Err (play.NoSuchFrame (first_frame_of q) (next_frame_of q - 1)))) g.read.told told
     (λ all left rest was end. failed first last before after (play.NoSuchFrame (first_frame_of q) (next_frame_of q - 1)) all rest (record {
       end = end.0.ends;
       outside = subst (IsOutside first last) (sym end.0.history) (outside_of first last p c fed file _ before after ordered g);
@@ -300,19 +296,10 @@ valid_history : (all : List ℕ) → is_valid (history_in all) ≡ true
 valid_history all = let p = prefix (blocks_of all).items [] (blocks_of all).end refl in ap is_valid p.history ∙ p.valid
 
 behind_last : (last : ℕ) (p : Player) (all rest : List ℕ) (fed : List Whole) (w : Whole) → IsFed (fed ++ w ∷ []) p.decoder all rest → number_by (history_of fed) w.content ≡ Some last → IsBehindLast last all rest
-behind_last last p all rest fed w f shows = record {
-  head = f.head;
-  header = f.header;
-  fed = fed;
-  block = w;
-  later = (coming p.decoder rest).items;
-  blocks = ap (λ (b : Blocks). b.items) (fed_blocks (fed ++ w ∷ []) p.decoder all rest f) ∙ append_assoc fed (w ∷ []) (coming p.decoder rest).items;
-  parts = f.parts;
-  shows = shows;
-}
+behind_last last p all rest fed w f shows = record { fed = fed; block = w; through = read_through fed w p.decoder all rest f; shows = shows }
 
 cut_whole : (first last : ℕ) (p : Player) (all rest : List ℕ) (fed : List Whole) (w : Whole) (before after : Option (List ℕ)) → first ≤ last → Ends first last fed w → IsFed (fed ++ w ∷ []) p.decoder all rest →
-    Appends before after (written_of (minor_of all) first last (fed ++ w ∷ [])) → Both first last before after (Ok tt) all rest
+    Appends before after (written_of (minor_of all) first last (fed ++ w ∷ [])) → AnswersKeeping first last before after (Ok tt) all rest
 cut_whole first last p all rest fed w before after ordered e f text =
     let b = fed_begins (fed ++ w ∷ []) p.decoder all rest f in
     let h = has_shown first last fed w e in
@@ -333,9 +320,9 @@ cut_whole first last p all rest fed w before after ordered e f text =
     )
 
 pub cut_done : (first last : ℕ) (p mid : Player) (c : Cutter) (fed : List Whole) (w : Whole) (file left rest before middle after : Option (List ℕ)) → first ≤ last → Cutting first last p c fed file left before middle →
-    HasRead mid (fed ++ w ∷ []) file rest → mid.minor ≡ p.minor → Ends c.first c.last fed w → Appends before after (text_by c (fed ++ w ∷ [])) → IfTold file rest (Both first last before after (Ok tt))
+    HasRead mid (fed ++ w ∷ []) file rest → mid.minor ≡ p.minor → Ends c.first c.last fed w → Appends before after (text_by c (fed ++ w ∷ [])) → IfTold file rest (AnswersKeeping first last before after (Ok tt))
 cut_done first last p mid c fed w file left rest before middle after ordered g read minor ends text =
     let e : Ends first last fed w = subst (λ a. Ends a last fed w) g.first_is (subst (λ b. Ends c.first b fed w) g.last_is ends) in
-    told_if file rest _ (Both first last before after (Ok tt)) read.told
+    told_if file rest _ (AnswersKeeping first last before after (Ok tt)) read.told
     (λ all rest was. cut_whole first last mid all rest fed w before after ordered e was.0
     (subst (Appends before after) (text_is first last (minor_of all) c (fed ++ w ∷ []) g.first_is g.last_is (g.minor_is ∙ sym minor ∙ was.1)) text))

@@ -8,4 +8,3 @@ pub mod Steps
 pub mod Stored
 pub mod Taking
 pub mod Files
-mod ToldBytes

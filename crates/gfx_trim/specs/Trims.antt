@@ -6,12 +6,11 @@ use Rattle.gfx_types.specs.declared.names.Fault.{Fault}
 use Rattle.gfx_model.specs.Blocks.{Whole, minor_of}
 use Rattle.gfx_model.specs.Blocks.End.{clean, bad}
 use Rattle.gfx_model.specs.Trimmed.{boundary, trimmed_by}
-use Rattle.gfx_grammar.specs.Framing.{IsHeader}
 use Rattle.gfx_grammar.specs.Reads.{AreBytes}
 use Rattle.gfx_grammar.specs.Splitting.{blocks_of}
 use Rattle.gfx_player.specs.declared.fault.PlayFault.{PlayFault}
 use Rattle.gfx_player.specs.declared.fault.PlayFault.TheVariants as play
-use Rattle.gfx_player.specs.Fed.{IsUnfinished, file_with, history_of}
+use Rattle.gfx_player.specs.Fed.{IsReadThrough, IsUnfinished, history_of}
 use Rattle.gfx_player.specs.Meanings.{end_of, history_in, first_in, last_in}
 use Rattle.gfx_trim.specs.Cutters.{number_by}
 use Rattle.gfx_trim.specs.Keeps.{Keeps}
@@ -22,15 +21,11 @@ use Rattle.gfx_trim.specs.Written.{written}
 abbrev pub trimmed : (first last : ℕ) → List ℕ → List ℕ
 trimmed first last bytes = trimmed_by (minor_of bytes) first last (boundary first (blocks_of bytes).items)
 
--- what is left follows the header and the first blocks of the file, up to the one that shows frame `last`
+-- what is left follows the block that shows frame `last`
 pub record IsBehindLast (last : ℕ) (bytes left : List ℕ) : Type 0 where
-  pub head : List ℕ
-  pub header : IsHeader head
   pub fed : List Whole
   pub block : Whole
-  pub later : List Whole
-  pub blocks : (blocks_of bytes).items ≡ fed ++ block ∷ later
-  pub parts : bytes ≡ file_with head (fed ++ block ∷ []) left
+  pub through : IsReadThrough fed block bytes left
   pub shows : number_by (history_of fed) block.content ≡ Some last
 
 -- the range is in the file, its trimmed file was written, and nothing behind its last frame was read
@@ -83,3 +78,8 @@ KeepsIfDone first last before after result bytes left = OnOk result (Keeps first
 -- the same of any list of bytes
 abbrev pub KeepsIfBytes : (first last : ℕ) → Option (List ℕ) → Option (List ℕ) → Result Unit PlayFault → List ℕ → List ℕ → Type 0
 KeepsIfBytes first last before after result bytes left = AreBytes bytes → KeepsIfDone first last before after result bytes left
+
+-- the answer, and that the trimmed file keeps the frames
+abbrev pub AnswersKeeping : (first last : ℕ) → Option (List ℕ) → Option (List ℕ) → Result Unit PlayFault → List ℕ → List ℕ → Type 0
+AnswersKeeping first last before after result bytes left =
+    Answers first last before after result bytes left × KeepsIfBytes first last before after result bytes left

@@ -2,7 +2,7 @@
 ghost use Rattle.std.specs.Prelude.{◌≡◌, ◌≤◌, Err};
 ghost use Rattle.gfx_io.specs.Causes.{Rose};
 ghost use Rattle.gfx_io.specs.Told.{IfTold};
-ghost use Rattle.gfx_trim.specs.Trims.{Answers, KeepsIfBytes, KeepsIfDone};
+ghost use Rattle.gfx_trim.specs.Trims.{Answers, AnswersKeeping, KeepsIfDone};
 
 use crate::cutter::Cutter;
 use gfx_io::{Sink, Source};
@@ -40,8 +40,7 @@ fn cut_range<S: Source, K: Sink>(
     sink: &mut K,
 ) -> Result<(), PlayFault>
     requires ordered { first ≤ last }
-    ensures told { IfTold (S.left source.old) (S.left source.new) (Answers first last (K.taken sink.old) (K.taken sink.new) result) }
-    ensures keeps { IfTold (S.left source.old) (S.left source.new) (KeepsIfBytes first last (K.taken sink.old) (K.taken sink.new) result) }
+    ensures told { IfTold (S.left source.old) (S.left source.new) (AnswersKeeping first last (K.taken sink.old) (K.taken sink.new) result) }
     ensures read_fault { result ≡ Err PlayFault.ReadFault → Rose (S.faults source.old) (S.faults source.new) }
     ensures sink_fault { result ≡ Err PlayFault.SinkFault → Rose (K.faults sink.old) (K.faults sink.new) }
     ensures later { (S.faults source.old ≤ S.faults source.new) × (K.faults sink.old ≤ K.faults sink.new) }

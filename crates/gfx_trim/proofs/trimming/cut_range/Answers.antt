@@ -2,11 +2,9 @@ use Rattle.std.proofs.Common.{◌≡◌, ◌∷◌, ◌++◌, [], false, true, O
 use Rattle.std.proofs.lemmas.Result.{err_from_is_err_and}
 use Rattle.gfx_decode.specs.Decoding.{item_of}
 use Rattle.gfx_decode.specs.Reachable.{IsBehind}
-use Rattle.gfx_decode.proofs.Told.{told_if}
 use Rattle.gfx_player.proofs.Walking.{still_going}
 use Rattle.gfx_trim.specs.Cutters.{GoesOn, IsAfter, Takes}
-use Rattle.gfx_trim.specs.Trims.{Answers, KeepsIfBytes}
-use Rattle.gfx_trim.proofs.Files.{Both, cut_done, cut_more, file_ends, next_fails, open_fails, start, take_fails}
+use Rattle.gfx_trim.proofs.Files.{cut_done, cut_more, file_ends, next_fails, open_fails, start, take_fails}
 use Rattle.gfx_trim.proofs.Taking.{after_alike}
 use Rattle.gfx_trim.proofs.trimming.cut_range.Goals as goal
 
@@ -15,16 +13,7 @@ returns-in_err-player-clause-told g c =
     let p = err_from_is_err_and c.from_residual.result c.from_residual.ensures.1 in
     let taken = g.K.Sink.taken c.args.sink.now in
     rw (p.1, p.2)
-    (told_if _ _ (Both c.args.first c.args.last taken taken (Err c.in_err-player.field-0.0)) (Answers c.args.first c.args.last taken taken (Err c.in_err-player.field-0.0))
-    (open_fails c.args.first c.args.last c.in_err-player.field-0.0 _ _ taken c.requires.ordered c.in_err-player.ensures.err) (λ all left both. both.0))
-
-pub returns-in_err-player-clause-keeps : goal.returns-in_err-player-clause-keeps
-returns-in_err-player-clause-keeps g c =
-    let p = err_from_is_err_and c.from_residual.result c.from_residual.ensures.1 in
-    let taken = g.K.Sink.taken c.args.sink.now in
-    rw (p.1, p.2)
-    (told_if _ _ (Both c.args.first c.args.last taken taken (Err c.in_err-player.field-0.0)) (KeepsIfBytes c.args.first c.args.last taken taken (Err c.in_err-player.field-0.0))
-    (open_fails c.args.first c.args.last c.in_err-player.field-0.0 _ _ taken c.requires.ordered c.in_err-player.ensures.err) (λ all left both. both.1))
+    (open_fails c.args.first c.args.last c.in_err-player.field-0.0 _ _ taken c.requires.ordered c.in_err-player.ensures.err)
 
 pub reading-init : goal.reading-init
 reading-init g c =
@@ -55,19 +44,7 @@ returns-in_err-raw-clause-told g c =
     let before = g.K.Sink.taken c.args.sink.now in
     let after = g.K.Sink.taken c.reading.sink in
     rw (p.1, p.2)
-    (told_if _ _ (Both c.args.first c.args.last before after (Err why)) (Answers c.args.first c.args.last before after (Err why))
-    (next_fails c.args.first c.args.last c.reading.player c.reading.cutter fed why _ _ _ before after c.requires.ordered w (c.in_err-raw.ensures.err fed _ w.stands.replayed w.read)) (λ all left both. both.0))
-
-pub returns-in_err-raw-clause-keeps : goal.returns-in_err-raw-clause-keeps
-returns-in_err-raw-clause-keeps g c =
-    let p = err_from_is_err_and c.from_residual-in_err-raw.result c.from_residual-in_err-raw.ensures.1 in
-    let (fed, w) = c.reading.invariant.cutting in
-    let why = c.in_err-raw.field-0.0 in
-    let before = g.K.Sink.taken c.args.sink.now in
-    let after = g.K.Sink.taken c.reading.sink in
-    rw (p.1, p.2)
-    (told_if _ _ (Both c.args.first c.args.last before after (Err why)) (KeepsIfBytes c.args.first c.args.last before after (Err why))
-    (next_fails c.args.first c.args.last c.reading.player c.reading.cutter fed why _ _ _ before after c.requires.ordered w (c.in_err-raw.ensures.err fed _ w.stands.replayed w.read)) (λ all left both. both.1))
+    (next_fails c.args.first c.args.last c.reading.player c.reading.cutter fed why _ _ _ before after c.requires.ordered w (c.in_err-raw.ensures.err fed _ w.stands.replayed w.read))
 
 -- a block was not taken
 pub returns-in_err-take-clause-told : goal.returns-in_err-take-clause-told
@@ -81,24 +58,8 @@ returns-in_err-take-clause-told g c =
     let stands = after_alike c.reading.cutter c.reading.player c.next.new.self fed c.next.ensures.kept w.stands in
     let did = c.in_err-take.ensures in
     rw (p.1, p.2)
-    (told_if _ _ (Both c.args.first c.args.last before after (Err why)) (Answers c.args.first c.args.last before after (Err why))
     (take_fails c.args.first c.args.last c.reading.player c.next.new.self c.reading.cutter fed (item_of c.in-Some.raw) why _ _ _ before (g.K.Sink.taken c.reading.sink) after c.requires.ordered w (some fed _ w.read) c.next.ensures.kept.minor
-    (did.takes.err fed stands) (λ fault block offset is. ap (λ s. g.K.Sink.taken s) (did.refused fault block offset (ap Err is))) (did.takes.front fed before stands w.text)) (λ all left both. both.0))
-
-pub returns-in_err-take-clause-keeps : goal.returns-in_err-take-clause-keeps
-returns-in_err-take-clause-keeps g c =
-    let p = err_from_is_err_and c.from_residual-in_err-take.result c.from_residual-in_err-take.ensures.1 in
-    let (fed, w) = c.reading.invariant.cutting in
-    let why = c.in_err-take.field-0.0 in
-    let before = g.K.Sink.taken c.args.sink.now in
-    let after = g.K.Sink.taken c.take.new.sink in
-    let some = rw c.in-Some.is at c.in_ok-raw.ensures.some in
-    let stands = after_alike c.reading.cutter c.reading.player c.next.new.self fed c.next.ensures.kept w.stands in
-    let did = c.in_err-take.ensures in
-    rw (p.1, p.2)
-    (told_if _ _ (Both c.args.first c.args.last before after (Err why)) (KeepsIfBytes c.args.first c.args.last before after (Err why))
-    (take_fails c.args.first c.args.last c.reading.player c.next.new.self c.reading.cutter fed (item_of c.in-Some.raw) why _ _ _ before (g.K.Sink.taken c.reading.sink) after c.requires.ordered w (some fed _ w.read) c.next.ensures.kept.minor
-    (did.takes.err fed stands) (λ fault block offset is. ap (λ s. g.K.Sink.taken s) (did.refused fault block offset (ap Err is))) (did.takes.front fed before stands w.text)) (λ all left both. both.1))
+    (did.takes.err fed stands) (λ fault block offset is. ap (λ s. g.K.Sink.taken s) (did.refused fault block offset (ap Err is))) (did.takes.front fed before stands w.text))
 
 -- the last block of the range was taken
 pub returns-then-branch-clause-told : goal.returns-then-branch-clause-told
@@ -109,21 +70,8 @@ returns-then-branch-clause-told g c =
     let some = rw c.in-Some.is at c.in_ok-raw.ensures.some in
     let stands = after_alike c.reading.cutter c.reading.player c.next.new.self fed c.next.ensures.kept w.stands in
     let did = c.in_ok-take.ensures.takes in
-    told_if _ _ (Both c.args.first c.args.last before after (Ok tt)) (Answers c.args.first c.args.last before after (Ok tt))
-    (cut_done c.args.first c.args.last c.reading.player c.next.new.self c.reading.cutter fed (item_of c.in-Some.raw) _ _ _ before (g.K.Sink.taken c.reading.sink) after c.requires.ordered w (some fed _ w.read) c.next.ensures.kept.minor
-    (subst (λ t. Takes t c.reading.cutter c.take.new.self c.take.new.player fed (item_of c.in-Some.raw)) c.if-branch.true (did.ok fed stands)) (did.text fed before stands w.text)) (λ all left both. both.0)
-
-pub returns-then-branch-clause-keeps : goal.returns-then-branch-clause-keeps
-returns-then-branch-clause-keeps g c =
-    let (fed, w) = c.reading.invariant.cutting in
-    let before = g.K.Sink.taken c.args.sink.now in
-    let after = g.K.Sink.taken c.take.new.sink in
-    let some = rw c.in-Some.is at c.in_ok-raw.ensures.some in
-    let stands = after_alike c.reading.cutter c.reading.player c.next.new.self fed c.next.ensures.kept w.stands in
-    let did = c.in_ok-take.ensures.takes in
-    told_if _ _ (Both c.args.first c.args.last before after (Ok tt)) (KeepsIfBytes c.args.first c.args.last before after (Ok tt))
-    (cut_done c.args.first c.args.last c.reading.player c.next.new.self c.reading.cutter fed (item_of c.in-Some.raw) _ _ _ before (g.K.Sink.taken c.reading.sink) after c.requires.ordered w (some fed _ w.read) c.next.ensures.kept.minor
-    (subst (λ t. Takes t c.reading.cutter c.take.new.self c.take.new.player fed (item_of c.in-Some.raw)) c.if-branch.true (did.ok fed stands)) (did.text fed before stands w.text)) (λ all left both. both.1)
+    cut_done c.args.first c.args.last c.reading.player c.next.new.self c.reading.cutter fed (item_of c.in-Some.raw) _ _ _ before (g.K.Sink.taken c.reading.sink) after c.requires.ordered w (some fed _ w.read) c.next.ensures.kept.minor
+    (subst (λ t. Takes t c.reading.cutter c.take.new.self c.take.new.player fed (item_of c.in-Some.raw)) c.if-branch.true (did.ok fed stands)) (did.text fed before stands w.text)
 
 pub reading-preserved : goal.reading-preserved
 reading-preserved g c =
@@ -153,15 +101,5 @@ returns-clause-told g c =
     let (fed, w) = c.reading.invariant.cutting in
     let before = g.K.Sink.taken c.args.sink.now in
     let after = g.K.Sink.taken c.reading.sink in
-    told_if _ _ (Both c.args.first c.args.last before after (Err c.no_such_frame.result)) (Answers c.args.first c.args.last before after (Err c.no_such_frame.result))
-    (file_ends c.args.first c.args.last c.reading.player c.next.new.self c.reading.cutter fed c.no_such_frame.result _ _ _ before after c.requires.ordered w c.next.ensures.kept
-    (c.in_ok-raw.ensures.none (ap Ok c.in_default.is) fed _ w.stands.replayed w.read) c.no_such_frame.ensures) (λ all left both. both.0)
-
-pub returns-clause-keeps : goal.returns-clause-keeps
-returns-clause-keeps g c =
-    let (fed, w) = c.reading.invariant.cutting in
-    let before = g.K.Sink.taken c.args.sink.now in
-    let after = g.K.Sink.taken c.reading.sink in
-    told_if _ _ (Both c.args.first c.args.last before after (Err c.no_such_frame.result)) (KeepsIfBytes c.args.first c.args.last before after (Err c.no_such_frame.result))
-    (file_ends c.args.first c.args.last c.reading.player c.next.new.self c.reading.cutter fed c.no_such_frame.result _ _ _ before after c.requires.ordered w c.next.ensures.kept
-    (c.in_ok-raw.ensures.none (ap Ok c.in_default.is) fed _ w.stands.replayed w.read) c.no_such_frame.ensures) (λ all left both. both.1)
+    file_ends c.args.first c.args.last c.reading.player c.next.new.self c.reading.cutter fed c.no_such_frame.result _ _ _ before after c.requires.ordered w c.next.ensures.kept
+    (c.in_ok-raw.ensures.none (ap Ok c.in_default.is) fed _ w.stands.replayed w.read) c.no_such_frame.ensures

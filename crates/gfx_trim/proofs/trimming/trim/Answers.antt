@@ -1,9 +1,19 @@
-use Rattle.gfx_trim.specs.Trims.{KeepsIfBytes, KeepsIfDone}
-use Rattle.gfx_trim.proofs.ToldBytes.{told_bytes}
+use Rattle.gfx_decode.proofs.Told.{told_if}
+use Rattle.gfx_trim.specs.Trims.{Answers, AnswersKeeping, KeepsIfBytes, KeepsIfDone}
+use Rattle.gfx_player.proofs.ToldBytes.{told_bytes}
 use Rattle.gfx_trim.proofs.trimming.trim.Goals as goal
+
+pub returns-clause-told : goal.returns-clause-told
+returns-clause-told g c =
+    let before = g.K.Sink.taken c.args.sink.now in
+    let after = g.K.Sink.taken c.cut_range.new.sink in
+    told_if _ _ (AnswersKeeping c.args.first c.args.last before after c.cut_range.result) (Answers c.args.first c.args.last before after c.cut_range.result)
+    c.cut_range.ensures.told (λ all left both. both.0)
 
 pub returns-clause-keeps : goal.returns-clause-keeps
 returns-clause-keeps g c =
     let before = g.K.Sink.taken c.args.sink.now in
     let after = g.K.Sink.taken c.cut_range.new.sink in
-    told_bytes _ _ (KeepsIfDone c.args.first c.args.last before after c.cut_range.result) (g.met.S.Source.are_bytes c.args.source.now) c.cut_range.ensures.keeps
+    told_bytes _ _ (KeepsIfDone c.args.first c.args.last before after c.cut_range.result) (g.met.S.Source.are_bytes c.args.source.now)
+    (told_if _ _ (AnswersKeeping c.args.first c.args.last before after c.cut_range.result) (KeepsIfBytes c.args.first c.args.last before after c.cut_range.result)
+    c.cut_range.ensures.told (λ all left both. both.1))
