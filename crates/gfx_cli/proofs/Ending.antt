@@ -1,11 +1,11 @@
 -- How a command ends, by what was read and written.
-use Rattle.std.proofs.Common.{◌≡◌, ℕ, List, [], ◌++◌, Option, Some, None, Result, Ok, Err, Bool, refl, sym, ap, subst, ◌∙◌, append_assoc}
-use Rattle.std.specs.Prelude.{decimal, codes, OnOk, IfErr}
+use Rattle.std.proofs.Common.{◌≡◌, ℕ, List, [], ◌++◌, Option, Some, None, Result, Ok, Err, Bool, refl, sym, ap, subst, ◌∙◌}
+use Rattle.std.specs.Prelude.{OnOk, IfErr}
 use Rattle.gfx_io.specs.Told.{IfTold}
 use Rattle.std.specs.Io.KnownBytes.{Appends}
 use Rattle.gfx_io.specs.Pieces.{AppendsPart}
 use Rattle.gfx_model.specs.Blocks.{minor_of}
-use Rattle.gfx_model.specs.Text as model
+use Rattle.gfx_model.specs.Text.{count_lines, counts_text}
 use Rattle.gfx_grammar.specs.Splitting.{blocks_of}
 use Rattle.gfx_io.proofs.Appending.{appends_none, nothing_written, part_of, whole_part}
 use Rattle.gfx_decode.specs.declared.fault.DecodeFault.{DecodeFault}
@@ -15,6 +15,7 @@ use Rattle.gfx_words.specs.declared.command.Command.{Command}
 use Rattle.gfx_words.specs.declared.command.Command.TheVariants.{Info, Replay, Trim, Make, Help, Version}
 use Rattle.gfx_player.specs.declared.fault.PlayFault.{PlayFault}
 use Rattle.gfx_player.specs.declared.fault.PlayFault.TheVariants as play
+use Rattle.gfx_player.specs.Fed.{IsUnfinished}
 use Rattle.gfx_play.specs.Screens.{lines_of}
 use Rattle.gfx_play.specs.Shows.{Answers, lines_in, text_in}
 use Rattle.gfx_trim.specs.Trims as trim
@@ -26,16 +27,24 @@ use Rattle.gfx_cli.specs.Commands.{IsGood, Leaves, asked_by, text_by, text_befor
 use Rattle.gfx_cli.specs.Counts.{CountsAll}
 use Rattle.gfx_cli.specs.Ends.{Ends, IsDone, Stops}
 use Rattle.gfx_cli.specs.Stop.{of_decoder, of_play, IsUnwritten, MissesNone}
-use Rattle.gfx_cli.specs.Text.{at_clean, counts_text, info_text, line_feed}
+use Rattle.gfx_cli.specs.Text.{at_clean, info_text}
 
 -- ---- `info`
 
 -- the file was not counted, and nothing was written
-pub info_fails : (taken : Option (List ℕ)) (why : DecodeFault) (all rest bytes : List ℕ) → CountsAll (Err why) all rest → all ≡ bytes ++ rest
+pub info_fails : (taken : Option (List ℕ)) (why : DecodeFault) (all rest : List ℕ) → CountsAll (Err why) all rest
     → Stops Info taken taken (of_decoder why) all rest
-info_fails taken (decoder.Bad fault block offset) all rest bytes end is = (end, appends_none taken)
-info_fails taken decoder.ReadFault all rest bytes end is = record { reads = tt; read = bytes; parts = is; going = tt; text = appends_none taken; front = nothing_written taken (info_text all) }
-info_fails taken decoder.WantMemory all rest bytes end is = nothing_written taken (info_text all)
+info_fails taken (decoder.Bad fault block offset) all rest end = (end, appends_none taken)
+info_fails taken decoder.ReadFault all rest (fed, is) =
+    record {
+      reads = tt;
+      read = is.given;
+      parts = is.parts;
+      going = subst (λ ws. IsUnfinished ws is.given) (sym is.blocks) is.cut;
+      text = appends_none taken;
+      front = nothing_written taken (info_text all);
+    }
+info_fails taken decoder.WantMemory all rest end = nothing_written taken (info_text all)
 
 -- and no frame is asked for
 pub info_misses_none : (why : DecodeFault) → MissesNone (of_decoder why)
@@ -43,26 +52,17 @@ info_misses_none (decoder.Bad fault block offset) = tt
 info_misses_none decoder.ReadFault = tt
 info_misses_none decoder.WantMemory = tt
 
--- four lines, in the order in which they are written
-four_lines : (v m t b s k c l f e : List ℕ) → v ++ m ++ e ++ (t ++ s) ++ b ++ e ++ (k ++ s) ++ c ++ e ++ (l ++ s) ++ f ++ e
-    ≡ ((v ++ m) ++ e) ++ ((t ++ s ++ b) ++ e) ++ ((k ++ s ++ c) ++ e) ++ ((l ++ s ++ f) ++ e)
-four_lines v m t b s k c l f e = simp append_assoc
-
-lines_of_counts : (m b c f : ℕ) → counts_text (record { minor = m; blocks = b; calls = c; frames = f })
-    ≡ model.line (codes "version 1000." ++ decimal m) ++ model.count_line (codes "blocks") b ++ model.count_line (codes "calls") c ++ model.count_line (codes "frames") f
-unfolding counts_text
-lines_of_counts m b c f = four_lines (codes "version 1000.") (decimal m) (codes "blocks") (decimal b) (codes " ") (codes "calls") (decimal c) (codes "frames") (decimal f) line_feed
-
-pub counted_text : (counts : Counts) (all rest : List ℕ) → CountsAll (Ok counts) all rest → counts_text counts ≡ info_text all
+-- the lines that were written are those of the file's counts
+counted_text : (counts : Counts) (all rest : List ℕ) → CountsAll (Ok counts) all rest → count_lines counts.minor counts.blocks counts.calls counts.frames ≡ info_text all
 counted_text counts all rest (are, end, none) =
-    lines_of_counts counts.minor counts.blocks counts.calls counts.frames
-    ∙ rw (are.minor, are.blocks, are.calls, are.frames) refl
-    ∙ ap (λ e. at_clean e (model.counts_text (minor_of all) (blocks_of all).items)) (sym end)
+    rw (are.minor, are.blocks, are.calls, are.frames) refl ∙ ap (λ e. at_clean e (counts_text (minor_of all) (blocks_of all).items)) (sym end)
 
-pub info_done : (counts : Counts) (before after : Option (List ℕ)) (all rest : List ℕ) → CountsAll (Ok counts) all rest → Appends before after (counts_text counts) → IsDone Info before after all rest
+pub info_done : (counts : Counts) (before after : Option (List ℕ)) (all rest : List ℕ) → CountsAll (Ok counts) all rest
+    → Appends before after (count_lines counts.minor counts.blocks counts.calls counts.frames) → IsDone Info before after all rest
 info_done counts before after all rest told text = record { good = told.1; leaves = told.2; text = subst (Appends before after) (counted_text counts all rest told) text }
 
-pub info_part : (counts : Counts) (before after : Option (List ℕ)) (all rest : List ℕ) → CountsAll (Ok counts) all rest → AppendsPart before after (counts_text counts) → AppendsPart before after (info_text all)
+pub info_part : (counts : Counts) (before after : Option (List ℕ)) (all rest : List ℕ) → CountsAll (Ok counts) all rest
+    → AppendsPart before after (count_lines counts.minor counts.blocks counts.calls counts.frames) → AppendsPart before after (info_text all)
 info_part counts before after all rest told text = subst (AppendsPart before after) (counted_text counts all rest told) text
 
 -- ---- `replay`

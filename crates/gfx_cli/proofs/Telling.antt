@@ -7,7 +7,8 @@ use Rattle.gfx_cli.specs.declared.stop.Stop.{Stop}
 use Rattle.gfx_cli.specs.declared.stop.Stop.TheVariants.{WantMemory, BadFile, NoSuchFrame, ReadFault, WriteFault}
 use Rattle.gfx_cli.specs.Run.{IsOfCommands, IsOfTexts}
 use Rattle.gfx_cli.specs.Stop.{status_of, line_of, IsUnwritten, MissesNone}
-use Rattle.gfx_cli.specs.Text.{bad_block_line, no_such_frame_line, read_fault_line}
+use Rattle.gfx_model.specs.Text.{bad_line}
+use Rattle.gfx_cli.specs.Text.{no_such_frame_line, read_fault_line}
 
 -- a stop was told, or memory was wanting, or the write failed
 abbrev pub IsToldBy : Status → Status → Type 0 → Type 0 → Type 0 → Type 0
@@ -27,7 +28,7 @@ told_or_wanting result wanted line same failed (inr (inl is)) none = inl is.0
 told_or_wanting result wanted line same failed (inr (inr is)) none = absurd (none is.1)
 
 pub bad_told : (Run : Stop → Type 0) (Line : List ℕ → Type 0) (stop : Stop) → status_of stop ≡ status.BadFile → Run stop → Line (line_of stop)
-    → (fault : Fault) × (block : ℕ) × (offset : ℕ) × Run (BadFile fault block offset) × Line (bad_block_line fault block offset)
+    → (fault : Fault) × (block : ℕ) × (offset : ℕ) × Run (BadFile fault block offset) × Line (bad_line fault block offset)
 bad_told Run Line (BadFile fault block offset) is run line = (fault, block, offset, run, line)
 bad_told Run Line (NoSuchFrame first last) is run line = absurd cc
 bad_told Run Line ReadFault is run line = absurd cc

@@ -74,9 +74,10 @@ LacksFrame (Make n) first last bytes = ⊥
 LacksFrame Help first last bytes = ⊥
 LacksFrame Version first last bytes = ⊥
 
--- nothing in these bytes stops the command: neither a bad block nor the last frame that it asks for, and the next block isn't whole
+-- nothing in these bytes stops the command: neither a bad block nor the last frame that it asks for, and the next block isn't whole;
+-- `info` stops only at a block that is no block of the format
 abbrev pub GoesOn : Command → List ℕ → Type 0
-GoesOn Info read = ⊤
+GoesOn Info read = IsUnfinished (blocks_of read).items read
 GoesOn (Replay pixels frames) read =
     IsUnfinished (blocks_of read).items read × (end_of read ≡ (blocks_of read).end) × (has_last (asked_by frames) (frames_in read) ≡ false)
 GoesOn (Trim r) read =

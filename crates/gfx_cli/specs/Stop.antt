@@ -1,22 +1,17 @@
 -- Why a command stops: its status, its line, and where the reason comes from.
 use Rattle.std.specs.Prelude.{ℕ, List, [], ⊤}
 use Rattle.gfx_decode.specs.declared.fault.DecodeFault.{DecodeFault}
-use Rattle.gfx_decode.specs.declared.fault.DecodeFault.TheVariants as decoder
 use Rattle.gfx_player.specs.declared.fault.PlayFault.{PlayFault}
 use Rattle.gfx_player.specs.declared.fault.PlayFault.TheVariants as play
+use Rattle.gfx_player.specs.Faults as player
 use Rattle.gfx_trial.specs.declared.fault.TrialFault.{TrialFault}
 use Rattle.gfx_trial.specs.declared.fault.TrialFault.TheVariants as trial
 use Rattle.gfx_cli.specs.declared.status.Status.{Status}
 use Rattle.gfx_cli.specs.declared.status.Status.TheVariants as status
 use Rattle.gfx_cli.specs.declared.stop.Stop.{Stop}
 use Rattle.gfx_cli.specs.declared.stop.Stop.TheVariants.{WantMemory, BadFile, NoSuchFrame, ReadFault, WriteFault}
-use Rattle.gfx_cli.specs.Text.{bad_block_line, no_such_frame_line, read_fault_line}
-
--- a decoder's fault, as a command hands it on
-abbrev pub of_decoder : DecodeFault → Stop
-of_decoder (decoder.Bad fault block offset) = BadFile fault block offset
-of_decoder decoder.ReadFault = ReadFault
-of_decoder decoder.WantMemory = WantMemory
+use Rattle.gfx_model.specs.Text.{bad_line}
+use Rattle.gfx_cli.specs.Text.{no_such_frame_line, read_fault_line}
 
 -- a fault of a walk through a file, as a command hands it on
 abbrev pub of_play : PlayFault → Stop
@@ -25,6 +20,10 @@ of_play (play.NoSuchFrame first last) = NoSuchFrame first last
 of_play play.ReadFault = ReadFault
 of_play play.SinkFault = WriteFault
 of_play play.WantMemory = WantMemory
+
+-- a decoder's fault, as a command hands it on
+abbrev pub of_decoder : DecodeFault → Stop
+of_decoder fault = of_play (player.of_decoder fault)
 
 -- a fault of a trial, as a command hands it on
 abbrev pub of_trial : TrialFault → Stop
@@ -57,7 +56,7 @@ status_of WantMemory = status.WantMemory
 
 -- the line in the notes, if there is one
 abbrev pub line_of : Stop → List ℕ
-line_of (BadFile fault block offset) = bad_block_line fault block offset
+line_of (BadFile fault block offset) = bad_line fault block offset
 line_of (NoSuchFrame first last) = no_such_frame_line first last
 line_of ReadFault = read_fault_line
 line_of WriteFault = []

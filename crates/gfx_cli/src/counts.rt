@@ -2,12 +2,11 @@
 ghost use Rattle.std.specs.Prelude.{◌≡◌, ◌<◌, ◌≤◌, ◌+◌, ◌^◌, ◌==◌, ℕ, IfOk, IfSome, Some, string_bytes};
 ghost use Rattle.gfx_io.specs.Causes.{Rose};
 ghost use Rattle.gfx_io.specs.Told.{IfTold};
-ghost use Rattle.gfx_decode.specs.Reading.{ReadsSome};
 ghost use Rattle.gfx_blocks.specs.Payloads.{content_of};
 ghost use Rattle.gfx_model.specs.Events.{event_of, event_of_call};
 ghost use Rattle.gfx_model.specs.Blocks.{effect as in_file};
 ghost use Rattle.gfx_model.specs.Spelling.{id_of};
-ghost use Rattle.gfx_cli.specs.Text.{counts_text};
+ghost use Rattle.gfx_model.specs.Text.{count_lines};
 ghost use Rattle.gfx_cli.specs.Counts.{CountsAll, with_block};
 
 use gfx_decode::{DecodeFault, Decoder, Raw};
@@ -77,9 +76,8 @@ impl Counts {
     }
 
     /// The lines that `info` prints.
-    #[tactic(auto, unfolding(crate::specs::Text::counts_text))]
     pub fn text(&self, alloc: Global) -> Result<String, AllocError>
-        ensures { IfOk result (λ text. string_bytes text ≡ counts_text self.now) }
+        ensures { IfOk result (λ text. string_bytes text ≡ count_lines self.now.minor self.now.blocks self.now.calls self.now.frames) }
     {
         let Counts {
             minor,
@@ -94,7 +92,6 @@ impl Counts {
 /// Counts all blocks of a source.
 pub fn count<S: Source>(alloc: Global, source: &mut S) -> Result<Counts, DecodeFault>
     ensures told { IfTold (S.left source.old) (S.left source.new) (CountsAll result) }
-    ensures reads { ReadsSome (S.left source.old) (S.left source.new) }
     ensures later { S.faults source.old ≤ S.faults source.new }
     ensures cause { result ≡ Err DecodeFault.ReadFault → Rose (S.faults source.old) (S.faults source.new) }
 {

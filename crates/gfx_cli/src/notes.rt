@@ -4,7 +4,8 @@ ghost use Rattle.std.specs.Io.KnownBytes.{Appends};
 ghost use Rattle.gfx_io.specs.Causes.{Rose};
 ghost use Rattle.gfx_io.specs.Pieces.{AppendsPart};
 ghost use Rattle.gfx_cli.specs.Stop.{line_of, status_of};
-ghost use Rattle.gfx_cli.specs.Text.{bad_block_line, no_such_frame_line};
+ghost use Rattle.gfx_model.specs.Text.{bad_line};
+ghost use Rattle.gfx_cli.specs.Text.{no_such_frame_line};
 
 use crate::{Status, Stop};
 use gfx_io::{Failed, Sink, write_whole};
@@ -56,9 +57,8 @@ pub(crate) fn note<N: Sink>(notes: &mut N, line: &str, status: Status) -> Status
 }
 
 /// The line that names a bad block.
-#[tactic(auto, unfolding(crate::specs::Text::bad_block_line))]
 fn bad_block(alloc: Global, fault: Fault, block: u64, offset: u64) -> Result<String, AllocError>
-    ensures { IfOk result (λ line. string_bytes line ≡ bad_block_line fault block offset) }
+    ensures { IfOk result (λ line. string_bytes line ≡ bad_line fault block offset) }
 {
     let number = fault.number();
     let name = fault.name();

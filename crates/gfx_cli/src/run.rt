@@ -12,7 +12,8 @@ ghost use Rattle.gfx_words.specs.declared.command.Command.{Command};
 ghost use Rattle.gfx_cli.specs.declared.stop.Stop.TheVariants as stop;
 ghost use Rattle.gfx_cli.specs.Commands.{IsBad, IsGood, LacksFrame, Reads};
 ghost use Rattle.gfx_cli.specs.Run.{IsOfCommands, IsNote, Runs, RunsAlone, WritesFront};
-ghost use Rattle.gfx_cli.specs.Text.{bad_block_line, no_such_frame_line, read_fault_line, usage_line};
+ghost use Rattle.gfx_model.specs.Text.{bad_line};
+ghost use Rattle.gfx_cli.specs.Text.{no_such_frame_line, read_fault_line, usage_line};
 ghost use Rattle.gfx_cli.specs.Words.{IsNamed, IsOutside};
 
 use crate::Status;
@@ -62,11 +63,11 @@ pub fn run_files<S: Source, K: Sink, N: Sink>(
     // A file is bad exactly where its first bad block is within what the command reads; it is noted, and the sink has what stands before it.
     ensures bad_file { result ≡ Status.BadFile → (fault : FileFault) × (block : ℕ) × (offset : ℕ)
         × Runs (map string_bytes words.now) (S.left source.old) (S.left source.new) (K.taken sink.old) (K.taken sink.new) (Err (stop.BadFile fault block offset))
-        × Appends (N.taken notes.old) (N.taken notes.new) (bad_block_line fault block offset) }
+        × Appends (N.taken notes.old) (N.taken notes.new) (bad_line fault block offset) }
     ensures bad_exactly { (command : Command) → (fault : FileFault) → (block : ℕ) → (offset : ℕ)
         → IsNamed (map string_bytes words.now) command → IsTold (S.left source.old) → IfSome (S.left source.old) (IsBad command fault block offset)
         → ¬ Rose (S.faults source.old) (S.faults source.new) → ¬ Rose (K.faults sink.old) (K.faults sink.new) → ¬ Rose (N.faults notes.old) (N.faults notes.new)
-        → (result ≡ Status.WantMemory) ⊎ ((result ≡ Status.BadFile) × Appends (N.taken notes.old) (N.taken notes.new) (bad_block_line fault block offset)) }
+        → (result ≡ Status.WantMemory) ⊎ ((result ≡ Status.BadFile) × Appends (N.taken notes.old) (N.taken notes.new) (bad_line fault block offset)) }
 
     // A frame isn't there exactly where the file, which was read to its end, ends cleanly without it; the frames that are there are noted.
     ensures no_such_frame { result ≡ Status.NoSuchFrame → (first : ℕ) × (last : ℕ)

@@ -31,19 +31,7 @@ impl From<DecodeFault> for Stop {
     ghost from_gives = { λ fault stop. stop ≡ of_decoder fault };
 
     fn from(fault: DecodeFault) -> Self {
-        match fault {
-            DecodeFault::Bad {
-                fault,
-                block,
-                offset,
-            } => Stop::BadFile {
-                fault,
-                block,
-                offset,
-            },
-            DecodeFault::ReadFault => Stop::ReadFault,
-            DecodeFault::WantMemory => Stop::WantMemory,
-        }
+        Stop::from(PlayFault::from(fault))
     }
 }
 

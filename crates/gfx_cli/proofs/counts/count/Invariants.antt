@@ -1,9 +1,7 @@
 use Rattle.std.proofs.Common.{◌≤◌}
 use Rattle.gfx_io.specs.Told.{IfTold}
-use Rattle.gfx_decode.specs.Decoding.{coming}
-use Rattle.gfx_decode.specs.Reading.{ReadsSome}
 use Rattle.gfx_decode.specs.Reachable.{IsBehind, blocks_ahead}
-use Rattle.gfx_cli.proofs.Counting.{IsSplit}
+use Rattle.gfx_cli.proofs.Counting.{Counted}
 use Rattle.gfx_cli.proofs.counts.count.Given as goal
 
 -- the decoder stands behind the blocks that were counted
@@ -12,11 +10,10 @@ invariant-loop-buffer g l =
     let source = g.S.Source in
     record {
       place : IsBehind l.counts.blocks l.decoder;
-      counted : IfTold (source.left l.fn.source) (source.left l.source) (λ all rest. IsSplit l.counts all (coming l.decoder rest));
+      counted : IfTold (source.left l.fn.source) (source.left l.source) (Counted l.counts l.decoder);
       calls : l.counts.calls ≤ l.counts.blocks;
       frames : l.counts.frames ≤ l.counts.blocks;
       later : source.faults l.fn.source ≤ source.faults l.source;
-      reads : ReadsSome (source.left l.fn.source) (source.left l.source);
     }
 
 abbrev pub decreases-loop-buffer : goal.decreases-loop-buffer
