@@ -8,7 +8,7 @@ use Rattle.gfx_model.specs.Events.{Event}
 use Rattle.gfx_trim.specs.Numbers.{IsInside, IsOutside}
 use Rattle.gfx_player.specs.Meanings.{history_in}
 use Rattle.gfx_words.specs.declared.command.Command.{Command}
-use Rattle.gfx_words.specs.declared.command.Command.TheVariants.{Info, Replay, Trim, Make, Help, Version}
+use Rattle.gfx_words.specs.declared.command.Command.TheVariants.{Info, Replay, Trim, Upgrade, Make, Help, Version}
 use Rattle.gfx_cli.specs.declared.stop.Stop.{Stop}
 use Rattle.gfx_cli.specs.declared.stop.Stop.TheVariants.{WantMemory, BadFile, NoSuchFrame, ReadFault, WriteFault}
 use Rattle.gfx_cli.specs.Commands.{IsBad, IsGood, LacksFrame}
@@ -31,6 +31,7 @@ good_not_bad Info fault block offset bytes good is = let e : clean ≡ bad fault
 good_not_bad (Replay pixels None) fault block offset bytes good is = let e : clean ≡ bad fault block offset = sym good ∙ is.0 in absurd cc
 good_not_bad (Replay pixels (Some r)) fault block offset bytes good is = let e : true ≡ false = sym good ∙ is.1 in absurd cc
 good_not_bad (Trim r) fault block offset bytes good is = in_and_out r.first r.last (history_in bytes) good is.1
+good_not_bad Upgrade fault block offset bytes good is = let e : clean ≡ bad fault block offset = sym good ∙ is in absurd cc
 good_not_bad (Make n) fault block offset bytes good is = is
 good_not_bad Help fault block offset bytes good is = is
 good_not_bad Version fault block offset bytes good is = is
@@ -40,6 +41,7 @@ good_not_lacking Info first last bytes good is = is
 good_not_lacking (Replay pixels None) first last bytes good is = is.range
 good_not_lacking (Replay pixels (Some r)) first last bytes good is = let e : true ≡ false = sym good ∙ is.unseen in absurd cc
 good_not_lacking (Trim r) first last bytes good is = in_and_out r.first r.last (history_in bytes) good is.outside
+good_not_lacking Upgrade first last bytes good is = is
 good_not_lacking (Make n) first last bytes good is = is
 good_not_lacking Help first last bytes good is = is
 good_not_lacking Version first last bytes good is = is
@@ -48,6 +50,7 @@ bad_not_lacking : (c : Command) (fault : Fault) (block offset first last : ℕ) 
 bad_not_lacking Info fault block offset first last bytes wrong is = is
 bad_not_lacking (Replay pixels frames) fault block offset first last bytes wrong is = let e : clean ≡ bad fault block offset = sym is.end ∙ wrong.0 in absurd cc
 bad_not_lacking (Trim r) fault block offset first last bytes wrong is = let e : clean ≡ bad fault block offset = sym is.end ∙ wrong.0 in absurd cc
+bad_not_lacking Upgrade fault block offset first last bytes wrong is = is
 bad_not_lacking (Make n) fault block offset first last bytes wrong is = is
 bad_not_lacking Help fault block offset first last bytes wrong is = is
 bad_not_lacking Version fault block offset first last bytes wrong is = is
@@ -64,6 +67,7 @@ same_bad : (c : Command) (fault other : Fault) (block number offset place : ℕ)
 same_bad Info fault other block number offset place bytes is so = one_bad fault other block number offset place (sym is ∙ so)
 same_bad (Replay pixels frames) fault other block number offset place bytes is so = one_bad fault other block number offset place (sym is.0 ∙ so.0)
 same_bad (Trim r) fault other block number offset place bytes is so = one_bad fault other block number offset place (sym is.0 ∙ so.0)
+same_bad Upgrade fault other block number offset place bytes is so = one_bad fault other block number offset place (sym is ∙ so)
 same_bad (Make n) fault other block number offset place bytes is so = absurd is
 same_bad Help fault other block number offset place bytes is so = absurd is
 same_bad Version fault other block number offset place bytes is so = absurd is
@@ -75,6 +79,7 @@ same_lack (Replay pixels frames) first last other_first other_last bytes is so =
     ap (λ n. NoSuchFrame n last) (is.first_is ∙ sym so.first_is) ∙ ap (NoSuchFrame other_first) (is.last_is ∙ sym so.last_is)
 same_lack (Trim r) first last other_first other_last bytes is so =
     ap (λ n. NoSuchFrame n last) (is.first_is ∙ sym so.first_is) ∙ ap (NoSuchFrame other_first) (is.last_is ∙ sym so.last_is)
+same_lack Upgrade first last other_first other_last bytes is so = absurd is
 same_lack (Make n) first last other_first other_last bytes is so = absurd is
 same_lack Help first last other_first other_last bytes is so = absurd is
 same_lack Version first last other_first other_last bytes is so = absurd is

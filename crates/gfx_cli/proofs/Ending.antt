@@ -12,7 +12,7 @@ use Rattle.gfx_decode.specs.declared.fault.DecodeFault.{DecodeFault}
 use Rattle.gfx_decode.specs.declared.fault.DecodeFault.TheVariants as decoder
 use Rattle.gfx_words.specs.declared.range.FrameRange.{FrameRange}
 use Rattle.gfx_words.specs.declared.command.Command.{Command}
-use Rattle.gfx_words.specs.declared.command.Command.TheVariants.{Info, Replay, Trim, Make, Help, Version}
+use Rattle.gfx_words.specs.declared.command.Command.TheVariants.{Info, Replay, Trim, Upgrade, Make, Help, Version}
 use Rattle.gfx_player.specs.declared.fault.PlayFault.{PlayFault}
 use Rattle.gfx_player.specs.declared.fault.PlayFault.TheVariants as play
 use Rattle.gfx_player.specs.Fed.{IsUnfinished}
@@ -20,6 +20,8 @@ use Rattle.gfx_play.specs.Screens.{lines_of}
 use Rattle.gfx_play.specs.Shows.{Answers, lines_in, text_in}
 use Rattle.gfx_trim.specs.Trims as trim
 use Rattle.gfx_trim.specs.Written.{written}
+use Rattle.gfx_upgrade.specs.Upgrades as upgrade
+use Rattle.gfx_upgrade.specs.Upgrades.{upgraded}
 use Rattle.gfx_cli.specs.declared.counts.Counts.{Counts}
 use Rattle.gfx_cli.specs.declared.stop.Stop.{Stop}
 use Rattle.gfx_cli.specs.declared.stop.Stop.TheVariants.{WantMemory, BadFile, NoSuchFrame, ReadFault, WriteFault}
@@ -93,6 +95,26 @@ trim_fails play.WantMemory r before after all rest is = is
 pub trim_done : (r : FrameRange) (before after : Option (List ℕ)) (all rest : List ℕ) → trim.Answers r.first r.last before after (Ok tt) all rest → IsDone (Trim r) before after all rest
 trim_done r before after all rest is = record { good = is.inside; leaves = is.behind; text = subst (Appends before after) (sym is.all) is.file }
 
+-- ---- `upgrade`
+
+pub upgrade_fails : (why : PlayFault) (before after : Option (List ℕ)) (all rest : List ℕ) → upgrade.Answers before after (Err why) all rest → Stops Upgrade before after (of_play why) all rest
+upgrade_fails (play.Bad fault block offset) before after all rest is = (is.end, is.file)
+upgrade_fails (play.NoSuchFrame first last) before after all rest is = absurd is
+upgrade_fails play.ReadFault before after all rest is = record { reads = tt; read = is.given; parts = is.parts; going = is.cut; text = is.file; front = is.front }
+upgrade_fails play.SinkFault before after all rest is = is
+upgrade_fails play.WantMemory before after all rest is = is
+
+pub upgrade_done : (before after : Option (List ℕ)) (all rest : List ℕ) → upgrade.Answers before after (Ok tt) all rest → IsDone Upgrade before after all rest
+upgrade_done before after all rest is = record { good = is.clean_end; leaves = is.read; text = is.file }
+
+-- and no frame is asked for
+pub upgrade_misses_none : (why : PlayFault) → upgrade.AsksForNone why → MissesNone (of_play why)
+upgrade_misses_none (play.Bad fault block offset) asks = tt
+upgrade_misses_none (play.NoSuchFrame first last) asks = absurd asks
+upgrade_misses_none play.ReadFault asks = tt
+upgrade_misses_none play.SinkFault asks = tt
+upgrade_misses_none play.WantMemory asks = tt
+
 -- ---- a text that needs no file
 
 pub text_ends : (c : Command) (before after : Option (List ℕ)) (r : Result Unit Stop) (text bytes : List ℕ) → IsGood c bytes → Leaves c bytes bytes → text ≡ text_by c bytes
@@ -118,6 +140,7 @@ text_first : (c : Command) (before after : Option (List ℕ)) (bytes : List ℕ)
 text_first Info before after bytes text = part_of before after [] (info_text bytes) (whole_part before after [] text)
 text_first (Replay pixels frames) before after bytes text = lines_first pixels frames before after bytes text
 text_first (Trim r) before after bytes text = whole_part before after (written r.first r.last bytes) text
+text_first Upgrade before after bytes text = whole_part before after (upgraded bytes) text
 text_first (Make n) before after bytes text = part_of before after [] (text_by (Make n) bytes) (whole_part before after [] text)
 text_first Help before after bytes text = part_of before after [] (text_by Help bytes) (whole_part before after [] text)
 text_first Version before after bytes text = part_of before after [] (text_by Version bytes) (whole_part before after [] text)

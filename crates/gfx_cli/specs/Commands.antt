@@ -5,7 +5,7 @@ use Rattle.gfx_model.specs.Blocks.{clean, bad}
 use Rattle.gfx_grammar.specs.Splitting.{blocks_of}
 use Rattle.gfx_words.specs.declared.range.FrameRange.{FrameRange}
 use Rattle.gfx_words.specs.declared.command.Command.{Command}
-use Rattle.gfx_words.specs.declared.command.Command.TheVariants.{Info, Replay, Trim, Make, Help, Version}
+use Rattle.gfx_words.specs.declared.command.Command.TheVariants.{Info, Replay, Trim, Upgrade, Make, Help, Version}
 use Rattle.gfx_player.specs.declared.asked.Asked.{Asked}
 use Rattle.gfx_player.specs.declared.asked.Asked.TheVariants.{All, Between}
 use Rattle.gfx_player.specs.Asked.{has_last}
@@ -16,6 +16,7 @@ use Rattle.gfx_trim.specs.Numbers as trim
 use Rattle.gfx_trim.specs.Trims.{IsBehindLast}
 use Rattle.gfx_trim.specs.Written.{written}
 use Rattle.gfx_trial.specs.Text.{trial_text}
+use Rattle.gfx_upgrade.specs.Upgrades.{upgraded}
 use Rattle.gfx_cli.specs.Text.{info_text, help_text, version_line}
 
 -- the command reads a file
@@ -23,6 +24,7 @@ abbrev pub Reads : Command → Type 0
 Reads Info = ⊤
 Reads (Replay pixels frames) = ⊤
 Reads (Trim r) = ⊤
+Reads Upgrade = ⊤
 Reads (Make n) = ⊥
 Reads Help = ⊥
 Reads Version = ⊥
@@ -37,6 +39,7 @@ abbrev pub IsGood : Command → List ℕ → Type 0
 IsGood Info bytes = (blocks_of bytes).end ≡ clean
 IsGood (Replay pixels frames) bytes = play.IsComplete (asked_by frames) bytes
 IsGood (Trim r) bytes = trim.IsInside r.first r.last (history_in bytes)
+IsGood Upgrade bytes = (blocks_of bytes).end ≡ clean
 IsGood (Make n) bytes = ⊤
 IsGood Help bytes = ⊤
 IsGood Version bytes = ⊤
@@ -46,6 +49,7 @@ abbrev pub IsBad : Command → Fault → ℕ → ℕ → List ℕ → Type 0
 IsBad Info fault block offset bytes = (blocks_of bytes).end ≡ bad fault block offset
 IsBad (Replay pixels frames) fault block offset bytes = (end_of bytes ≡ bad fault block offset) × (has_last (asked_by frames) (frames_in bytes) ≡ false)
 IsBad (Trim r) fault block offset bytes = (end_of bytes ≡ bad fault block offset) × trim.IsOutside r.first r.last (history_in bytes)
+IsBad Upgrade fault block offset bytes = (blocks_of bytes).end ≡ bad fault block offset
 IsBad (Make n) fault block offset bytes = ⊥
 IsBad Help fault block offset bytes = ⊥
 IsBad Version fault block offset bytes = ⊥
@@ -70,18 +74,20 @@ abbrev pub LacksFrame : Command → ℕ → ℕ → List ℕ → Type 0
 LacksFrame Info first last bytes = ⊥
 LacksFrame (Replay pixels frames) first last bytes = HasOnly (asked_by frames) first last bytes
 LacksFrame (Trim r) first last bytes = LacksRange r first last bytes
+LacksFrame Upgrade first last bytes = ⊥
 LacksFrame (Make n) first last bytes = ⊥
 LacksFrame Help first last bytes = ⊥
 LacksFrame Version first last bytes = ⊥
 
 -- nothing in these bytes stops the command: neither a bad block nor the last frame that it asks for, and the next block isn't whole;
--- `info` stops only at a block that is no block of the format
+-- `info` and `upgrade` stop only at a block that is none of the format
 abbrev pub GoesOn : Command → List ℕ → Type 0
 GoesOn Info read = IsUnfinished (blocks_of read).items read
 GoesOn (Replay pixels frames) read =
     IsUnfinished (blocks_of read).items read × (end_of read ≡ (blocks_of read).end) × (has_last (asked_by frames) (frames_in read) ≡ false)
 GoesOn (Trim r) read =
     IsUnfinished (blocks_of read).items read × (end_of read ≡ (blocks_of read).end) × trim.IsOutside r.first r.last (history_in read)
+GoesOn Upgrade read = IsUnfinished (blocks_of read).items read
 GoesOn (Make n) read = ⊥
 GoesOn Help read = ⊥
 GoesOn Version read = ⊥
@@ -91,6 +97,7 @@ abbrev pub text_by : Command → List ℕ → List ℕ
 text_by Info bytes = info_text bytes
 text_by (Replay pixels frames) bytes = play.text_in (asked_by frames) pixels bytes
 text_by (Trim r) bytes = written r.first r.last bytes
+text_by Upgrade bytes = upgraded bytes
 text_by (Make n) bytes = trial_text n
 text_by Help bytes = help_text
 text_by Version bytes = version_line
@@ -100,6 +107,7 @@ abbrev pub text_before : Command → List ℕ → List ℕ
 text_before Info bytes = []
 text_before (Replay pixels frames) bytes = play.lines_in (asked_by frames) pixels bytes
 text_before (Trim r) bytes = written r.first r.last bytes
+text_before Upgrade bytes = upgraded bytes
 text_before (Make n) bytes = []
 text_before Help bytes = []
 text_before Version bytes = []
@@ -109,6 +117,7 @@ abbrev pub Leaves : Command → List ℕ → List ℕ → Type 0
 Leaves Info bytes left = left ≡ []
 Leaves (Replay pixels frames) bytes left = play.Leaves (asked_by frames) bytes left
 Leaves (Trim r) bytes left = IsBehindLast r.last bytes left
+Leaves Upgrade bytes left = left ≡ []
 Leaves (Make n) bytes left = left ≡ bytes
 Leaves Help bytes left = left ≡ bytes
 Leaves Version bytes left = left ≡ bytes

@@ -17,7 +17,7 @@ info_text bytes = at_clean (blocks_of bytes).end (counts_text (minor_of bytes) (
 
 -- what is noted where the words name no command
 abbrev pub usage_line : List ℕ
-usage_line = line (codes "usage: gfxcap info; replay [--pixels] [--frames A-B]; trim A-B; capture [--frames A-B]; make N")
+usage_line = line (codes "usage: gfxcap info; replay [--pixels] [--frames A-B]; trim A-B; capture [--frames A-B]; make N; upgrade")
 
 -- what is noted where a read failed
 abbrev pub read_fault_line : List ℕ
@@ -38,4 +38,5 @@ help_text =
     ++ line (codes "A capture is read from standard input, and frames A to B are those with these numbers.")
     ++ line (codes "info describes it, replay writes a line with the digest of each frame, with --pixels its rows too,")
     ++ line (codes "and trim writes the capture of these frames alone. make tries the program on a capture of N frames.")
+    ++ line (codes "upgrade writes the capture in version 2.")
     ++ line (codes "--help and --version alone write this text and the version.")

@@ -10,10 +10,11 @@ ghost use Rattle.gfx_words.specs.declared.range.FrameRange.{FrameRange as Range}
 ghost use Rattle.gfx_trim.specs.Keeps.{Keeps};
 ghost use Rattle.gfx_cli.specs.Commands.{Reads, asked_by};
 ghost use Rattle.gfx_trial.specs.Text.{trial_text};
+ghost use Rattle.gfx_upgrade.specs.Laws.{TookSame};
 ghost use Rattle.gfx_cli.specs.Ends.{Ends, EndsAlone};
 ghost use Rattle.gfx_cli.specs.Stop.{IsUnwritten, MissesNone};
 ghost use Rattle.gfx_cli.specs.Words.{IsNamed, IsOutside, IsOnly};
-ghost use Rattle.gfx_words.specs.declared.command.Command.TheVariants.{Info, Replay, Trim};
+ghost use Rattle.gfx_words.specs.declared.command.Command.TheVariants.{Info, Replay, Trim, Upgrade};
 
 use crate::Stop;
 use crate::info::write_counts;
@@ -22,14 +23,16 @@ use gfx_play::show_frames;
 use gfx_player::Asked;
 use gfx_trial::write_trial;
 use gfx_trim::trim;
+use gfx_upgrade::upgrade;
 use gfx_words::{Command, FrameRange};
 use std::alloc::Global;
 
 const HELP: &str =
-    "usage: gfxcap info; replay [--pixels] [--frames A-B]; trim A-B; capture [--frames A-B]; make N
+    "usage: gfxcap info; replay [--pixels] [--frames A-B]; trim A-B; capture [--frames A-B]; make N; upgrade
 A capture is read from standard input, and frames A to B are those with these numbers.
 info describes it, replay writes a line with the digest of each frame, with --pixels its rows too,
 and trim writes the capture of these frames alone. make tries the program on a capture of N frames.
+upgrade writes the capture in version 2.
 --help and --version alone write this text and the version.
 ";
 
@@ -89,6 +92,19 @@ fn cut<S: Source, K: Sink>(
     Ok(())
 }
 
+/// Writes the file in version 2.
+fn renew<S: Source, K: Sink>(alloc: Global, source: &mut S, sink: &mut K) -> Result<(), Stop>
+    ensures ends { IfTold (S.left source.old) (S.left source.new) (Ends Upgrade (K.taken sink.old) (K.taken sink.new) result) }
+    ensures same { IfTold (S.left source.old) (S.left source.new) (λ bytes _. OnOk result (TookSame (K.taken sink.old) (K.taken sink.new) bytes)) }
+    ensures why { IfErr result MissesNone }
+    ensures read_fault { result ≡ Err Stop.ReadFault → Rose (S.faults source.old) (S.faults source.new) }
+    ensures write_fault { result ≡ Err Stop.WriteFault → Rose (K.faults sink.old) (K.faults sink.new) }
+    ensures later { (S.faults source.old ≤ S.faults source.new) × (K.faults sink.old ≤ K.faults sink.new) }
+{
+    upgrade(alloc, source, sink)?;
+    Ok(())
+}
+
 /// Makes a capture, cuts it, and writes what both show.
 fn make<K: Sink>(alloc: Global, frames: u64, sink: &mut K) -> Result<(), Stop>
     requires { (3 ≤ frames) × (frames ≤ 1000) }
@@ -127,6 +143,8 @@ pub(crate) fn run_command<S: Source, K: Sink>(
     ensures unread { ¬ Reads command → source.new ≡ source.old }
     ensures alone { ¬ Reads command → EndsAlone command (K.taken sink.old) (K.taken sink.new) result }
     ensures info { command ≡ Info → IfErr result MissesNone }
+    ensures upgrade { command ≡ Upgrade → IfErr result MissesNone }
+    ensures same { command ≡ Upgrade → IfTold (S.left source.old) (S.left source.new) (λ bytes _. OnOk result (TookSame (K.taken sink.old) (K.taken sink.new) bytes)) }
     ensures read_fault { result ≡ Err Stop.ReadFault → Rose (S.faults source.old) (S.faults source.new) }
     ensures write_fault { result ≡ Err Stop.WriteFault → Rose (K.faults sink.old) (K.faults sink.new) }
     ensures later { (S.faults source.old ≤ S.faults source.new) × (K.faults sink.old ≤ K.faults sink.new) }
@@ -137,6 +155,7 @@ pub(crate) fn run_command<S: Source, K: Sink>(
         Command::Help => write_text(HELP, sink),
         Command::Version => write_text(VERSION, sink),
         Command::Trim(range) => cut(alloc, range, source, sink),
+        Command::Upgrade => renew(alloc, source, sink),
         Command::Make { frames } => make(alloc, frames, sink),
     }
 }

@@ -5,8 +5,9 @@ ghost use Rattle.gfx_io.specs.Causes.{Rose};
 ghost use Rattle.gfx_io.specs.Pieces.{AppendsPart};
 ghost use Rattle.gfx_io.specs.Told.{IfTold, IsTold};
 ghost use Rattle.gfx_words.specs.declared.range.FrameRange.{FrameRange};
-ghost use Rattle.gfx_words.specs.declared.command.Command.TheVariants.{Info, Trim};
+ghost use Rattle.gfx_words.specs.declared.command.Command.TheVariants.{Info, Trim, Upgrade};
 ghost use Rattle.gfx_trim.specs.Keeps.{Keeps};
+ghost use Rattle.gfx_upgrade.specs.Laws.{TookSame};
 ghost use Rattle.gfx_types.specs.declared.names.Fault.{Fault as FileFault};
 ghost use Rattle.gfx_words.specs.declared.command.Command.{Command};
 ghost use Rattle.gfx_cli.specs.declared.stop.Stop.TheVariants as stop;
@@ -23,7 +24,7 @@ use gfx_io::{Sink, Source};
 use std::alloc::Global;
 
 const USAGE: &str =
-    "usage: gfxcap info; replay [--pixels] [--frames A-B]; trim A-B; capture [--frames A-B]; make N\n";
+    "usage: gfxcap info; replay [--pixels] [--frames A-B]; trim A-B; capture [--frames A-B]; make N; upgrade\n";
 
 /// Runs a command over a source and two sinks, one for its answer and one for notes.
 pub fn run_files<S: Source, K: Sink, N: Sink>(
@@ -43,11 +44,11 @@ pub fn run_files<S: Source, K: Sink, N: Sink>(
     // A command that reads no file leaves the source alone.
     ensures unread { (command : Command) → IsNamed (map string_bytes words.now) command → ¬ Reads command → source.new ≡ source.old }
 
-    // It is promised of any source: its text, and that just want of memory or a failed write stops it. `info` asks for no frame.
+    // It is promised of any source: its text, and that just want of memory or a failed write stops it. `info` and `upgrade` ask for no frame.
     ensures alone { (command : Command) → IsNamed (map string_bytes words.now) command → ¬ Reads command
         → RunsAlone command (K.taken sink.old) (K.taken sink.new) result
         × (¬ Rose (K.faults sink.old) (K.faults sink.new) → (result ≡ Status.Done) ⊎ (result ≡ Status.WantMemory)) }
-    ensures info { IsNamed (map string_bytes words.now) Info → result ≡ Status.NoSuchFrame → ⊥ }
+    ensures info { IsNamed (map string_bytes words.now) Info ⊎ IsNamed (map string_bytes words.now) Upgrade → result ≡ Status.NoSuchFrame → ⊥ }
 
     // The file has all that the command asks for, and its text was written.
     ensures done { result ≡ Status.Done → Runs (map string_bytes words.now) (S.left source.old) (S.left source.new) (K.taken sink.old) (K.taken sink.new) (Ok tt)
@@ -56,6 +57,10 @@ pub fn run_files<S: Source, K: Sink, N: Sink>(
     // Of a file that was cut, the sink took one that ends cleanly and whose frames are exactly those of the range.
     ensures keeps { result ≡ Status.Done → (range : FrameRange) → IsNamed (map string_bytes words.now) (Trim range) → IfTold (S.left source.old) (S.left source.new)
         (λ bytes _. Keeps range.first range.last (K.taken sink.old) (K.taken sink.new) bytes) }
+
+    // Of a file that was upgraded, the sink took one that has its history, its frames and its first bad block.
+    ensures same { result ≡ Status.Done → IsNamed (map string_bytes words.now) Upgrade → IfTold (S.left source.old) (S.left source.new)
+        (λ bytes _. TookSame (K.taken sink.old) (K.taken sink.new) bytes) }
     ensures complete { (command : Command) → IsNamed (map string_bytes words.now) command → IsTold (S.left source.old) → IfSome (S.left source.old) (IsGood command)
         → ¬ Rose (S.faults source.old) (S.faults source.new) → ¬ Rose (K.faults sink.old) (K.faults sink.new)
         → (result ≡ Status.Done) ⊎ (result ≡ Status.WantMemory) }

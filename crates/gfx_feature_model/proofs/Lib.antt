@@ -1,5 +1,3 @@
 mod Opened
 mod LeanExamples
 mod ListingExamples
-mod UpgradedExamples
-pub mod UpgradedLaws

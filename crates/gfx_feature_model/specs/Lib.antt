@@ -1,4 +1,2 @@
 pub mod Lean
 pub mod Listing
-pub mod Upgraded
-pub mod Laws

@@ -3,19 +3,19 @@ use Rattle.gfx_model.proofs.ExampleCaptures.{after, f1, f3, file3, frame2, whole
 use Rattle.gfx_model.specs.Section.{section}
 use Rattle.gfx_model.specs.Spelling.{encoding, header}
 use Rattle.gfx_model.specs.Trimmed.{boundary, trimmed_by}
-use Rattle.gfx_feature_model.specs.Upgraded.{upgraded_by}
+use Rattle.gfx_upgrade.specs.Upgraded.{upgraded_by}
 use Rattle.std.specs.Prelude.{[], length, refl, ◌++◌, ◌∷◌, ◌≡◌}
 use Rattle.gfx_model.specs.Blocks.Content.{skipped}
 use Rattle.gfx_model.proofs.ExampleCaptures.{after, f1, file3, wholes}
 use Rattle.gfx_model.specs.Blocks.End.{clean}
 use Rattle.gfx_model.specs.Spelling.{encoding, header}
-use Rattle.gfx_feature_model.specs.Upgraded.{upgraded_block, upgraded_by}
+use Rattle.gfx_upgrade.specs.Upgraded.{upgraded_block, upgraded_by}
 use Rattle.std.specs.Prelude.{[], length, refl, ◌++◌, ◌∷◌, ◌≡◌}
 use Rattle.std.proofs.Common.{◌≡◌, [], ◌∷◌, ◌++◌, length, refl}
 use Rattle.gfx_model.specs.Spelling.{encoding, header}
 use Rattle.gfx_model.specs.Blocks.End.{clean}
-use Rattle.gfx_feature_model.specs.Upgraded.{IsUpgraded}
-use Rattle.gfx_feature_model.proofs.Opened.{all}
+use Rattle.gfx_upgrade.specs.Upgraded.{IsUpgraded}
+use Rattle.gfx_model.proofs.ExampleCaptures.{all}
 use Rattle.gfx_model.proofs.FileExamples.{first, file, block, ex_blocks}
 
 ex_upgraded : length (upgraded_by file3) ≡ 1583

@@ -1,16 +1,22 @@
 -- A file that is written anew in minor version 2 says the same.
-use Rattle.std.proofs.Common.{◌≡◌, ℕ, ◌+◌, ◌*◌, ◌^◌, ◌<◌, ◌⊎◌, Bool, true, false, not, ◌&&◌, ◌||◌, cond, nat_eq, List, [], ◌∷◌, ◌++◌, length, map, drop, Option, Some, None, refl, sym, ap, subst, ◌∙◌, arith, inl, inr, length-append}
+use Rattle.std.proofs.Common.{◌≡◌, ◌≢◌, ℕ, ◌+◌, ◌*◌, ◌^◌, ◌<◌, ◌≤◌, ◌⊎◌, Bool, true, false, not, ◌&&◌, ◌||◌, cond, nat_eq, List, [], ◌∷◌, ◌++◌, length, map, drop, Option, Some, None, refl, sym, ap, subst, ◌∙◌, arith, inl, inr, length-append}
 use Rattle.std.specs.Prelude.{flat_map}
 use Rattle.std.specs.Int.{w32, w64, to_le_bytes}
 use Rattle.std.specs.List.{AllByRecursion}
 use Rattle.std.proofs.lemmas.List.{take_at, drop_at, length-take}
 use Rattle.gfx_types.specs.declared.names.Fault.{Fault}
 use Rattle.gfx_types.specs.declared.lists.Present.{Present}
-use Rattle.gfx_model.specs.Events.{Event}
+use Rattle.gfx_types.specs.declared.call.Call.{Call}
+use Rattle.gfx_types.specs.declared.call.Call.TheVariants as call
+use Rattle.gfx_types.specs.declared.effect.Meta.{Meta}
+use Rattle.gfx_types.specs.declared.effect.Meta.TheVariants as meta
+use Rattle.gfx_types.specs.declared.effect.Effect.TheVariants as of_block
+use Rattle.gfx_model.specs.Events.{Event, event_of, event_of_call, event_of_meta}
 use Rattle.gfx_model.specs.Events.Event.{QueuePresentKHR}
 use Rattle.gfx_model.specs.Spelling.{Field, HasSpelling, spelling, fields_of, payload, type_of, id_of, id_fields, present_fields, list_of, encoding, header}
-use Rattle.gfx_feature_model.specs.Upgraded.{upgraded_by, upgraded_block, upgraded_event}
+use Rattle.gfx_upgrade.specs.Upgraded.{is_present, upgraded_by, upgraded_block, upgraded_event}
 use Rattle.gfx_model.specs.Blocks.{IsThread, IsContent, Content, skipped, effect, Whole, End, clean, header_fault, header_length, minor_of, first_position, Position, type_field, payload_field, size_field, is_marker, is_inside, side_count, next_position}
+use Rattle.gfx_model.specs.Limits.{max_payload}
 use Rattle.gfx_grammar.specs.Reads.{AreBytes, text_of}
 use Rattle.gfx_grammar.proofs.NumberLaws.{AreBytes-drop, AreBytes-take}
 use Rattle.gfx_grammar.proofs.ReaderLaws.{text_of-append, Fits-parts, Fits-append}
@@ -23,13 +29,9 @@ use Rattle.gfx_grammar.proofs.RoomLaws.{placed-says}
 use Rattle.gfx_grammar.proofs.SplitLaws.{splits_in_one_way}
 use Rattle.gfx_grammar.proofs.HeaderLaws.{header_good, start_minor, blocks_of-good, blocks_of-bad}
 use Rattle.gfx_grammar.specs.Splitting.{Blocks, blocks_from, blocks_of}
-use Rattle.gfx_feature_model.specs.Laws.{upgraded_part, UpgradedIsRead, UpgradedSaysTheSame}
+use Rattle.gfx_upgrade.specs.Laws.{upgraded_part, UpgradedIsRead}
 
 -- ---- the versions spell all but presents alike
-
-abbrev is_present : Event → Bool
-is_present (QueuePresentKHR queue waits presents) = true
-is_present _ = false
 
 spelled-alike : (m n : ℕ) (e : Event) → is_present e ≡ false → HasSpelling m e → HasSpelling n e × (spelling n e ≡ spelling m e)
 unfolding spelling fields_of
@@ -110,9 +112,14 @@ content_of : (m : ℕ) (bytes : List ℕ) (c : Content) → AreBytes bytes → I
 content_of m bytes c fit h =
     read_is_content m (type_field bytes) (payload_field bytes) c (AreBytes-take (size_field bytes) (drop 12 bytes) (AreBytes-drop 12 bytes fit)) h.payload
 
-same_bytes : (bytes : List ℕ) (t : ℕ) (e : Event) → is_present e ≡ false → upgraded_event bytes t e ≡ bytes
+pub same_bytes : (bytes : List ℕ) (t : ℕ) (e : Event) → is_present e ≡ false → upgraded_event bytes t e ≡ bytes
 same_bytes bytes t (QueuePresentKHR queue waits presents) not = absurd cc
 same_bytes bytes t e not = refl
+
+-- a present is written anew
+pub other_bytes : (bytes : List ℕ) (t : ℕ) (e : Event) → is_present e ≡ true → upgraded_event bytes t e ≡ encoding 2 t e
+other_bytes bytes t (QueuePresentKHR queue waits presents) is = refl
+other_bytes bytes t e is = absurd cc
 
 -- what stands as it was
 stands : (m : ℕ) (bytes : List ℕ) (c : Content) → IsBlock m bytes c → IsContent 2 (type_field bytes) (payload_field bytes) c → IsBlock 2 bytes c
@@ -135,6 +142,21 @@ by_version : (m t queue : ℕ) (waits : List ℕ) (presents : List Present) → 
     → CanBeWritten m t (QueuePresentKHR queue waits presents) → CanBeWritten 2 t (QueuePresentKHR queue waits presents)
 by_version m t queue waits presents (inl one) can = present-upgrades t queue waits presents (subst (λ m. CanBeWritten m t (QueuePresentKHR queue waits presents)) one can)
 by_version m t queue waits presents (inr two) can = subst (λ m. CanBeWritten m t (QueuePresentKHR queue waits presents)) two can
+
+-- what a block says has a block in version 2
+fits_two : (m t : ℕ) (e : Event) → (m ≡ 1) ⊎ (m ≡ 2) → CanBeWritten m t e → CanBeWritten 2 t e
+unfolding payload
+fits_two m t (QueuePresentKHR queue waits presents) version can = by_version m t queue waits presents version can
+fits_two m t e version can =
+    let alike = spelled-alike m 2 e refl can.fits in
+    record {
+      fits = alike.0;
+      thread_fits = can.thread_fits;
+      small = subst (λ (xs : List ℕ). length ((to_le_bytes w32 (id_of e) ++ cond (nat_eq (type_of e) 2) [] (to_le_bytes w64 t)) ++ xs) ≤ max_payload) (sym alike.1) can.small;
+    }
+
+pub block_fits_two : (m t : ℕ) (bytes : List ℕ) (e : Event) → (m ≡ 1) ⊎ (m ≡ 2) → AreBytes bytes → IsBlock m bytes (effect t e) → CanBeWritten 2 t e
+block_fits_two m t bytes e version fit h = fits_two m t e version (block-small m t bytes e h (content_of m bytes (effect t e) fit h))
 
 event-upgrades : (m t : ℕ) (bytes : List ℕ) (e : Event) → (m ≡ 1) ⊎ (m ≡ 2) → AreBytes bytes → IsBlock m bytes (effect t e)
     → IsContent m (type_field bytes) (payload_field bytes) (effect t e) → Upgrades (upgraded_event bytes t e) (effect t e)
@@ -214,8 +236,27 @@ by_header bytes fit (Some f) is =
 pub upgraded_is_read : UpgradedIsRead
 upgraded_is_read bytes fit = by_header bytes fit (header_fault bytes) refl
 
-pub upgraded_says_the_same : UpgradedSaysTheSame
-upgraded_says_the_same bytes fit =
+-- and they say the same
+pub same_contents : (bytes : List ℕ) → AreBytes bytes
+    → map (λ (w : Whole). w.content) (blocks_of (upgraded_by (blocks_of bytes).items)).items ≡ map (λ (w : Whole). w.content) (blocks_of bytes).items
+same_contents bytes fit =
     ap (λ (b : Blocks). map (λ (w : Whole). w.content) b.items) (upgraded_is_read bytes fit)
     ∙ placed-says (first_position (header 2)) (map upgraded_part (blocks_of bytes).items)
     ∙ contents (blocks_of bytes).items
+
+-- ---- presents among the effects of blocks
+
+-- another call is none
+pub other_call : (c : Call) → ((queue : ℕ) (waits : List ℕ) (presents : List Present) → c ≢ call.QueuePresentKHR queue waits presents) → is_present (event_of_call c) ≡ false
+other_call (call.QueuePresentKHR queue waits presents) not = absurd (not queue waits presents refl)
+other_call _ not = refl
+
+pub no_meta : (m : Meta) → is_present (event_of_meta m) ≡ false
+no_meta (meta.FillMemory memory offset bytes) = refl
+no_meta (meta.InitImage image layout bytes) = refl
+no_meta (meta.SetSwapchainState swapchain acquired) = refl
+no_meta (meta.SetSemaphoreState semaphore signalled) = refl
+
+pub no_marker : (begin : Bool) (frame : ℕ) → is_present (event_of (of_block.Marker begin frame)) ≡ false
+no_marker true frame = refl
+no_marker false frame = refl

@@ -1,10 +1,15 @@
 -- The file in minor version 2.
-use Rattle.std.specs.Prelude.{◌≡◌, ℕ, List, ◌++◌, flat_map}
+use Rattle.std.specs.Prelude.{◌≡◌, ℕ, Bool, true, false, List, ◌++◌, flat_map}
 use Rattle.gfx_model.specs.Events.{Event}
 use Rattle.gfx_model.specs.Events.Event.{QueuePresentKHR}
 use Rattle.gfx_model.specs.Spelling.{header, encoding}
 use Rattle.gfx_model.specs.Blocks.{Content, Whole, End, AreBlocks}
 use Rattle.gfx_model.specs.Blocks.Content.{skipped, effect}
+
+-- the event is a present, the one call that version 2 spells in another way
+abbrev pub is_present : Event → Bool
+is_present (QueuePresentKHR queue waits presents) = true
+is_present _ = false
 
 -- a block as it stands, but a present with its fields in version 2
 abbrev pub upgraded_event : List ℕ → ℕ → Event → List ℕ

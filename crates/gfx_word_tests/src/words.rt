@@ -4,13 +4,14 @@ use gfx_outside::Outside;
 use std::test::Fail;
 
 const USAGE: &[u8] =
-    b"usage: gfxcap info; replay [--pixels] [--frames A-B]; trim A-B; capture [--frames A-B]; make N\n";
+    b"usage: gfxcap info; replay [--pixels] [--frames A-B]; trim A-B; capture [--frames A-B]; make N; upgrade\n";
 
 const HELP: &[u8] =
-    b"usage: gfxcap info; replay [--pixels] [--frames A-B]; trim A-B; capture [--frames A-B]; make N
+    b"usage: gfxcap info; replay [--pixels] [--frames A-B]; trim A-B; capture [--frames A-B]; make N; upgrade
 A capture is read from standard input, and frames A to B are those with these numbers.
 info describes it, replay writes a line with the digest of each frame, with --pixels its rows too,
 and trim writes the capture of these frames alone. make tries the program on a capture of N frames.
+upgrade writes the capture in version 2.
 --help and --version alone write this text and the version.
 ";
 

@@ -5,7 +5,7 @@ use Rattle.std.specs.List.{before_first, after_first}
 use Rattle.std.proofs.lemmas.Fmt.{decimal_injective}
 use Rattle.gfx_words.specs.declared.range.FrameRange.{FrameRange}
 use Rattle.gfx_words.specs.declared.command.Command.{Command}
-use Rattle.gfx_words.specs.declared.command.Command.TheVariants.{Info, Replay, Trim, Make, Help, Version}
+use Rattle.gfx_words.specs.declared.command.Command.TheVariants.{Info, Replay, Trim, Upgrade, Make, Help, Version}
 use Rattle.gfx_words.specs.Words.{range_text, FitsRange}
 use Rattle.gfx_words.specs.Commands.{words_of, Fits}
 use Rattle.gfx_words.proofs.Ranges.{range_cut}
@@ -47,41 +47,13 @@ one_replay true true (Some r) (Some s) of_r of_s is = ap (λ x. Replay true (Som
 -- words that are those of two commands
 pub one_command : (c other : Command) → Fits c → Fits other → words_of c ≡ words_of other → other ≡ c
 one_command Info Info of_c of_other is = refl
-one_command Info (Replay q s) of_c of_other is = absurd (let n = ap letter is in omega (arith, n))
-one_command Info (Trim s) of_c of_other is = absurd (let n = ap letter is in omega (arith, n))
-one_command Info (Make m) of_c of_other is = absurd (let n = ap letter is in omega (arith, n))
-one_command Info Help of_c of_other is = absurd (let n = ap letter is in omega (arith, n))
-one_command Info Version of_c of_other is = absurd (let n = ap letter is in omega (arith, n))
-one_command (Replay p r) Info of_c of_other is = absurd (let n = ap letter is in omega (arith, n))
 one_command (Replay p r) (Replay q s) of_c of_other is = one_replay p q r s of_c of_other is
-one_command (Replay p r) (Trim s) of_c of_other is = absurd (let n = ap letter is in omega (arith, n))
-one_command (Replay p r) (Make m) of_c of_other is = absurd (let n = ap letter is in omega (arith, n))
-one_command (Replay p r) Help of_c of_other is = absurd (let n = ap letter is in omega (arith, n))
-one_command (Replay p r) Version of_c of_other is = absurd (let n = ap letter is in omega (arith, n))
-one_command (Trim r) Info of_c of_other is = absurd (let n = ap letter is in omega (arith, n))
-one_command (Trim r) (Replay q s) of_c of_other is = absurd (let n = ap letter is in omega (arith, n))
 one_command (Trim r) (Trim s) of_c of_other is = ap Trim (one_range r s of_c of_other (ap (word_at 1) is))
-one_command (Trim r) (Make m) of_c of_other is = absurd (let n = ap letter is in omega (arith, n))
-one_command (Trim r) Help of_c of_other is = absurd (let n = ap letter is in omega (arith, n))
-one_command (Trim r) Version of_c of_other is = absurd (let n = ap letter is in omega (arith, n))
-one_command (Make n) Info of_c of_other is = absurd (let n = ap letter is in omega (arith, n))
-one_command (Make n) (Replay q s) of_c of_other is = absurd (let n = ap letter is in omega (arith, n))
-one_command (Make n) (Trim s) of_c of_other is = absurd (let n = ap letter is in omega (arith, n))
 one_command (Make n) (Make m) of_c of_other is = ap Make (decimal_injective m n (omega (arith, of_other.1)) (omega (arith, of_c.1)) (sym (ap (word_at 1) is)))
-one_command (Make n) Help of_c of_other is = absurd (let n = ap letter is in omega (arith, n))
-one_command (Make n) Version of_c of_other is = absurd (let n = ap letter is in omega (arith, n))
-one_command Help Info of_c of_other is = absurd (let n = ap letter is in omega (arith, n))
-one_command Help (Replay q s) of_c of_other is = absurd (let n = ap letter is in omega (arith, n))
-one_command Help (Trim s) of_c of_other is = absurd (let n = ap letter is in omega (arith, n))
-one_command Help (Make m) of_c of_other is = absurd (let n = ap letter is in omega (arith, n))
+one_command Upgrade Upgrade of_c of_other is = refl
 one_command Help Help of_c of_other is = refl
-one_command Help Version of_c of_other is = absurd (let n = ap letter is in omega (arith, n))
-one_command Version Info of_c of_other is = absurd (let n = ap letter is in omega (arith, n))
-one_command Version (Replay q s) of_c of_other is = absurd (let n = ap letter is in omega (arith, n))
-one_command Version (Trim s) of_c of_other is = absurd (let n = ap letter is in omega (arith, n))
-one_command Version (Make m) of_c of_other is = absurd (let n = ap letter is in omega (arith, n))
-one_command Version Help of_c of_other is = absurd (let n = ap letter is in omega (arith, n))
 one_command Version Version of_c of_other is = refl
+one_command c other of_c of_other is = absurd (let n = ap letter is in omega (arith, n))
 
 -- the command that words are found to name is the only one
 pub only_one : (words : List (List ℕ)) (found : Option Command) → IfSome found (λ c. (words ≡ words_of c) × Fits c)

@@ -2,7 +2,7 @@
 use Rattle.std.specs.Prelude.{◌≤◌, ℕ, Bool, if◌then◌else◌, List, [], ◌∷◌, ◌++◌, Option, Some, None, codes, decimal, ⊤}
 use Rattle.gfx_words.specs.declared.range.FrameRange.{FrameRange}
 use Rattle.gfx_words.specs.declared.command.Command.{Command}
-use Rattle.gfx_words.specs.declared.command.Command.TheVariants.{Info, Replay, Trim, Make, Help, Version}
+use Rattle.gfx_words.specs.declared.command.Command.TheVariants.{Info, Replay, Trim, Upgrade, Make, Help, Version}
 use Rattle.gfx_words.specs.Words.{range_text, FitsRange}
 
 -- the words that ask for a range
@@ -19,6 +19,7 @@ abbrev pub words_of : Command → List (List ℕ)
 words_of Info = codes "info" ∷ []
 words_of (Replay pixels frames) = codes "replay" ∷ pixels_words pixels ++ frames_words frames
 words_of (Trim r) = codes "trim" ∷ range_text r ∷ []
+words_of Upgrade = codes "upgrade" ∷ []
 words_of (Make frames) = codes "make" ∷ decimal frames ∷ []
 words_of Help = codes "--help" ∷ []
 words_of Version = codes "--version" ∷ []
@@ -33,6 +34,7 @@ abbrev pub Fits : Command → Type 0
 Fits Info = ⊤
 Fits (Replay pixels frames) = FitsFrames frames
 Fits (Trim r) = FitsRange r
+Fits Upgrade = ⊤
 Fits (Make frames) = (3 ≤ frames) × (frames ≤ 1000)
 Fits Help = ⊤
 Fits Version = ⊤

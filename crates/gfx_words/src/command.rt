@@ -13,6 +13,7 @@ pub enum Command {
         frames: Option<FrameRange>,
     },
     Trim(FrameRange),
+    Upgrade,
     /// How many frames the file is to have, 3 to 1,000.
     Make {
         frames: u64,
@@ -68,6 +69,7 @@ impl Command {
                 pixels: false,
                 frames: None,
             }),
+            "upgrade" => Some(Command::Upgrade),
             "--help" => Some(Command::Help),
             "--version" => Some(Command::Version),
             _ => None,

@@ -2,7 +2,7 @@ use Rattle.std.proofs.Common.{inl, inr, ap, refl, subst, sym}
 use Rattle.std.specs.Prelude.{Ok, Err, IfSome, map, string_bytes}
 use Rattle.std.specs.Io.KnownBytes.{Appends}
 use Rattle.gfx_decode.proofs.Told.{told_if}
-use Rattle.gfx_words.specs.declared.command.Command.TheVariants.{Info, Trim}
+use Rattle.gfx_words.specs.declared.command.Command.TheVariants.{Info, Trim, Upgrade}
 use Rattle.gfx_cli.specs.Commands.{IsBad, IsGood, LacksFrame, Reads}
 use Rattle.gfx_cli.specs.Ends.{Ends, EndsAlone, IsDone, Stops}
 use Rattle.gfx_cli.specs.Run.{Runs, usage_noted, stop_noted}
@@ -185,4 +185,15 @@ returns-in-Err-clause-alone g c other named reads =
 pub returns-in-Err-clause-info : goal.returns-in-Err-clause-info
 returns-in-Err-clause-info g c named is =
     let told = status_tells c.tell.result (status_of c.in-Err.stop) status.NoSuchFrame _ _ _ c.tell.ensures.ends is (λ e. absurd cc) (λ e. absurd cc) in
-    misses_none c.in-Err.stop (c.in-Err.ensures.info (sym (c.in-Some.ensures.only Info named))) told.0
+    misses_none c.in-Err.stop (elim named [
+      | inl info ↦ c.in-Err.ensures.info (sym (c.in-Some.ensures.only Info info))
+      | inr upgrade ↦ c.in-Err.ensures.upgrade (sym (c.in-Some.ensures.only Upgrade upgrade))
+    ]) told.0
+
+pub returns-in-Ok-clause-same : goal.returns-in-Ok-clause-same
+returns-in-Ok-clause-same g c is named = c.in-Ok.ensures.same (sym (c.in-Some.ensures.only Upgrade named))
+
+pub returns-in-Err-clause-same : goal.returns-in-Err-clause-same
+returns-in-Err-clause-same g c is named =
+    let told = status_tells c.tell.result (status_of c.in-Err.stop) status.Done _ _ _ c.tell.ensures.ends is (λ e. absurd cc) (λ e. absurd cc) in
+    absurd ((stop_status c.in-Err.stop).0 told.0)

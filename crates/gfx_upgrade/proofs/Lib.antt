@@ -1,0 +1,4 @@
+mod UpgradedExamples
+pub mod UpgradedLaws
+pub mod Meanings
+pub mod Upgrading

@@ -1,0 +1,3 @@
+pub mod Upgraded
+pub mod Upgrades
+pub mod Laws

@@ -1,0 +1,40 @@
+//! A file in version 2, block by block.
+ghost use Rattle.std.specs.Prelude.{◌≡◌, ◌≤◌, Err, IfErr, OnOk};
+ghost use Rattle.gfx_io.specs.Causes.{Rose};
+ghost use Rattle.gfx_io.specs.Told.{IfTold};
+ghost use Rattle.gfx_upgrade.specs.Laws.{TookSame};
+ghost use Rattle.gfx_upgrade.specs.Upgrades.{Answers, AsksForNone};
+
+use crate::writing::{write_block, write_header};
+use gfx_decode::Decoder;
+use gfx_io::{Sink, Source};
+use gfx_player::PlayFault;
+use std::alloc::Global;
+
+/// Writes a file in version 2: a header without options, and each block once it was read, as it stands, but of a present its
+/// fields in version 2. It looks at the format alone and not at the rules. The blocks before a bad one were written, and
+/// nothing where the header is bad.
+pub fn upgrade<S: Source, K: Sink>(
+    alloc: Global,
+    source: &mut S,
+    sink: &mut K,
+) -> Result<(), PlayFault>
+    ensures told { IfTold (S.left source.old) (S.left source.new) (Answers (K.taken sink.old) (K.taken sink.new) result) }
+
+    // What the sink took has the history, the frames and the first bad block of the file.
+    ensures same { IfTold (S.left source.old) (S.left source.new) (λ bytes _. OnOk result (TookSame (K.taken sink.old) (K.taken sink.new) bytes)) }
+    ensures misses { IfErr result AsksForNone }
+    ensures read_fault { result ≡ Err PlayFault.ReadFault → Rose (S.faults source.old) (S.faults source.new) }
+    ensures sink_fault { result ≡ Err PlayFault.SinkFault → Rose (K.faults sink.old) (K.faults sink.new) }
+    ensures later { (S.faults source.old ≤ S.faults source.new) × (K.faults sink.old ≤ K.faults sink.new) }
+{
+    let mut decoder = Decoder::new(alloc);
+    let header = decoder.header(source)?;
+    let mut room = Vec::new(alloc);
+    write_header(&mut room, sink)?;
+    let mut buffer = Vec::new(alloc);
+    'reading: while let Some(raw) = decoder.next(source, &mut buffer)? {
+        write_block(header.minor, raw, &mut room, sink)?;
+    }
+    Ok(())
+}

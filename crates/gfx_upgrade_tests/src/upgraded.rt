@@ -1,0 +1,109 @@
+//! Files of both minor versions, whole, with options, damaged, and where reads and writes fail.
+
+use gfx_outside::Outside;
+use gfx_samples::files::{
+    NEXT_FRAME, ONE_FRAME, TWO_IMAGES, append, file_of, one_frame, three_frames, with_bytes,
+};
+use std::alloc::Global;
+use std::test::Fail;
+
+const WORDS: &[&str] = &["upgrade"];
+
+/// The present of `ONE_FRAME` and of `NEXT_FRAME` in version 2: a list of one image.
+const PRESENT: &str =
+    "280000000000000004000000300000000000000000000000040000000000000000000000010000000500000000000000\
+    00000000";
+
+const SHOWN: &[u8] =
+    b"frame 1.1 3x1 R8_UINT ba7816bf8f01cfea414140de5dae2223b00361a396177a9cb410ff61f20015ad
+frame 2.1 3x1 R8_UINT ba7816bf8f01cfea414140de5dae2223b00361a396177a9cb410ff61f20015ad
+frame 3.1 3x1 R8_UINT ba7816bf8f01cfea414140de5dae2223b00361a396177a9cb410ff61f20015ad
+frames 3
+";
+
+/// The file of three frames in version 2.
+fn upgraded(alloc: Global) -> Result<Vec<u8>, Fail> {
+    let mut file = file_of(alloc, 2, &ONE_FRAME[..21])?;
+    append(alloc, &[PRESENT], &mut file)?;
+    for _ in 0..2 {
+        append(alloc, &NEXT_FRAME[..3], &mut file)?;
+        append(alloc, &[PRESENT], &mut file)?;
+    }
+    Ok(file)
+}
+
+#[test]
+fn presents_alone_are_spelled_anew(rt: HostRuntime) -> Result<(), Fail> {
+    let file = upgraded(rt.alloc())?;
+    assert_eq!(rt; file.len(), 1583);
+    Outside::of(WORDS, &three_frames(rt.alloc())?).ends(rt.alloc(), 0, &file, b"")?;
+    Outside::replay(&file).ends(rt.alloc(), 0, SHOWN, b"")?;
+    // A file of version 2 stays.
+    Outside::of(WORDS, &file).ends(rt.alloc(), 0, &file, b"")?;
+    let images = file_of(rt.alloc(), 2, &TWO_IMAGES)?;
+    Outside::of(WORDS, &images).ends(rt.alloc(), 0, &images, b"")?;
+    // So does a block that is skipped.
+    let skipped = file_of(rt.alloc(), 1, &["030000000000000001000000616263"])?;
+    let kept = file_of(rt.alloc(), 2, &["030000000000000001000000616263"])?;
+    Outside::of(WORDS, &skipped).ends(rt.alloc(), 0, &kept, b"")
+}
+
+#[test]
+fn options_are_not_kept(rt: HostRuntime) -> Result<(), Fail> {
+    for minor in [1, 2] {
+        let mut file = Vec::from_slice(
+            rt.alloc(),
+            b"GFXR\xe8\x03\0\0\0\0\0\0\x01\0\0\0\x05\0\0\0\x07\0\0\0",
+        )?;
+        file[8] = minor;
+        Outside::of(WORDS, &file).ends(rt.alloc(), 0, &file_of(rt.alloc(), 2, &[])?, b"")?;
+    }
+    Ok(())
+}
+
+#[test]
+fn what_stands_before_a_bad_block_is_written(rt: HostRuntime) -> Result<(), Fail> {
+    let mut file = three_frames(rt.alloc())?;
+    file.truncate(1570);
+    let line = b"bad block 30 at 1535: 5 Truncated\n";
+    Outside::of(WORDS, &file).ends(rt.alloc(), 3, &upgraded(rt.alloc())?[..1531], line)?;
+    // A rule is not looked at: the first call again.
+    let mut file = one_frame(rt.alloc())?;
+    append(rt.alloc(), &ONE_FRAME[..1], &mut file)?;
+    let mut wanted = file_of(rt.alloc(), 2, &ONE_FRAME[..21])?;
+    append(rt.alloc(), &[PRESENT, ONE_FRAME[0]], &mut wanted)?;
+    Outside::of(WORDS, &file).ends(rt.alloc(), 0, &wanted, b"")
+}
+
+#[test]
+fn nothing_is_written_of_a_bad_header(rt: HostRuntime) -> Result<(), Fail> {
+    let file = with_bytes(one_frame(rt.alloc())?, 8, &[3]);
+    Outside::of(WORDS, &file).ends(rt.alloc(), 3, b"", b"bad block 0 at 0: 2 BadVersion\n")
+}
+
+#[test]
+fn each_read_and_each_write_may_fail(rt: HostRuntime) -> Result<(), Fail> {
+    let file = one_frame(rt.alloc())?;
+    let wanted = Outside::of(WORDS, &file).run(rt.alloc())?.text;
+    for call in 1..=46 {
+        let calls = [call];
+        let read = Outside {
+            failing_reads: &calls,
+            ..Outside::of(WORDS, &file)
+        };
+        let ended = read.run(rt.alloc())?;
+        assert_eq!(rt; ended.status, 5);
+        assert!(rt; wanted.starts_with(&ended.text));
+    }
+    for call in 1..=23 {
+        let calls = [call];
+        let write = Outside {
+            failing_writes: &calls,
+            ..Outside::of(WORDS, &file)
+        };
+        let ended = write.run(rt.alloc())?;
+        assert_eq!(rt; ended.status, 6);
+        assert!(rt; wanted.starts_with(&ended.text));
+    }
+    Ok(())
+}
