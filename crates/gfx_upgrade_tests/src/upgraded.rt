@@ -66,7 +66,9 @@ fn what_stands_before_a_bad_block_is_written(rt: HostRuntime) -> Result<(), Fail
     let mut file = three_frames(rt.alloc())?;
     file.truncate(1570);
     let line = b"bad block 30 at 1535: 5 Truncated\n";
-    Outside::of(WORDS, &file).ends(rt.alloc(), 3, &upgraded(rt.alloc())?[..1531], line)?;
+    let mut wanted = upgraded(rt.alloc())?;
+    wanted.truncate(1531);
+    Outside::of(WORDS, &file).ends(rt.alloc(), 3, &wanted, line)?;
     // A rule is not looked at: the first call again.
     let mut file = one_frame(rt.alloc())?;
     append(rt.alloc(), &ONE_FRAME[..1], &mut file)?;
