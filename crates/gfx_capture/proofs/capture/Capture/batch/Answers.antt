@@ -1,0 +1,12 @@
+use Rattle.gfx_seats.specs.Seat.{hand}
+use Rattle.gfx_capture.proofs.Places.{keeps, tells}
+use Rattle.gfx_capture.proofs.capture.Capture.batch.Goals as goal
+
+pub returns-clause-keeps : goal.returns-clause-keeps
+returns-clause-keeps g c =
+    keeps (hand c.args.pass.now) _ _ _ c.args.buffer.now.events c.turn-turn.ensures.seat c.append-answer.ensures.appended c.leave.ensures.seat c.turn-turn.ensures.before
+
+pub returns-clause-tells : goal.returns-clause-tells
+returns-clause-tells g c =
+    tells (hand c.args.pass.now) _ _ _ c.args.buffer.now.events c.turn-turn.ensures.seat c.append-answer.ensures.appended c.leave.ensures.seat
+    c.args.buffer.now.minor c.requires.buffer c.turn-turn.ensures.known _ c.append-answer.ensures.grown

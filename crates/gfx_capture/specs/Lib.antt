@@ -1,0 +1,5 @@
+pub mod Entry
+pub mod ThreadBuffer
+pub mod Log
+pub mod Append
+pub mod Pass
