@@ -65,7 +65,7 @@ fn options_are_not_kept(rt: HostRuntime) -> Result<(), Fail> {
 fn what_stands_before_a_bad_block_is_written(rt: HostRuntime) -> Result<(), Fail> {
     let mut file = three_frames(rt.alloc())?;
     file.truncate(1570);
-    let line = b"bad block 30 at 1535: 5 Truncated\n";
+    let line = b"bad block 30 at 1523: 5 Truncated\n";
     let mut wanted = upgraded(rt.alloc())?;
     wanted.truncate(1531);
     Outside::of(WORDS, &file).ends(rt.alloc(), 3, &wanted, line)?;
