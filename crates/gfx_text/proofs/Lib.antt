@@ -1,0 +1,10 @@
+pub mod Answered
+pub mod Fronts
+pub mod Numbers
+pub mod Hex
+pub mod Items
+pub mod Between
+pub mod Tokens
+pub mod Places
+pub mod Mapping
+pub mod Renumbering

@@ -1,0 +1,5 @@
+pub mod Gives
+pub mod Digits
+pub mod Fields
+pub mod Places
+pub mod Renumbered

@@ -1,0 +1,140 @@
+// Words of a text: where one ends, and the number or the bytes that it is.
+ghost use Rattle.std.specs.Prelude.{◌≡◌, ◌<◌, ◌^◌, IfOk, IfSome, MatchOption, not, position};
+ghost use Rattle.std.specs.List.{position_or_len};
+ghost use Rattle.gfx_script_model.specs.Names.{is_letter_or_digit};
+ghost use Rattle.gfx_text_grammar.specs.Words.{word_of, after_word, number_in, is_plain, raw_in, byte_of, hex_value};
+ghost use Rattle.gfx_text_grammar.specs.Reading.{behind};
+ghost use Rattle.gfx_text_grammar.specs.FieldReading.{without_front};
+ghost use Rattle.gfx_text.specs.Digits.{with_digit};
+ghost use Rattle.gfx_text.specs.Gives.{Reads};
+
+use std::alloc::{AllocError, Global};
+
+/// The word at the front of a text, as long as can be, and the text behind it.
+pub(crate) fn cut_word(text: &[u8]) -> (&[u8], &[u8])
+    ensures word { result.0.now ≡ word_of text.now }
+    ensures rest { result.1.now ≡ after_word text.now }
+{
+    text.split_at(word_length(text))
+}
+
+/// How many letters, digits and _ stand at the front.
+fn word_length(text: &[u8]) -> usize
+    ensures { result ≡ position_or_len (λ c. not (is_letter_or_digit c)) text.now }
+{
+    match word_end(text) {
+        Some(end) => end,
+        None => text.len(),
+    }
+}
+
+/// The place of the first byte that no word has.
+fn word_end(text: &[u8]) -> Option<usize>
+    ensures { result ≡ position (λ c. not (is_letter_or_digit c)) text.now }
+{
+    text.iter().position(|c| !is_letter_or_digit(*c))
+}
+
+fn is_letter_or_digit(c: u8) -> bool
+    ensures { result ≡ is_letter_or_digit c }
+{
+    c == b'_' || (97 <= c && c <= 122) || (48 <= c && c <= 57)
+}
+
+/// The text behind this byte, None where another stands at the front.
+pub(crate) fn behind(byte: u8, text: &[u8]) -> Option<&[u8]>
+    ensures { MatchOption result (behind byte text.now ≡ None) (λ rest. behind byte text.now ≡ Some rest.now) }
+{
+    match text.split_first() {
+        Some((first, rest)) if *first == byte => Some(rest),
+        _ => None,
+    }
+}
+
+/// The text behind this front, None where another stands there.
+pub(crate) fn without_front<'t>(front: &[u8], text: &'t [u8]) -> Option<&'t [u8]>
+    ensures { MatchOption result (without_front front.now text.now ≡ None) (λ rest. without_front front.now text.now ≡ Some rest.now) }
+{
+    text.strip_prefix(front)
+}
+
+/// The number that a word is in decimal, without a leading zero. None where it is none below 2^64.
+pub fn number_of(word: &[u8]) -> Option<u64>
+    ensures { result ≡ number_in (2 ^ 64) word.now }
+{
+    if !is_plain(word) {
+        return None;
+    }
+    let mut number: u64 = 0;
+    'digits: for digit in word {
+        number = with_digit(number, *digit)?;
+    }
+    Some(number)
+}
+
+/// The same of a number below 2^32.
+pub(crate) fn short_number_of(word: &[u8]) -> Option<u32>
+    ensures { result ≡ number_in (2 ^ 32) word.now }
+{
+    match number_of(word) {
+        Some(number) if number < 1 << 32 => Some(number as u32),
+        _ => None,
+    }
+}
+
+/// Whether a digit stands in front, and no zero but a zero alone.
+fn is_plain(word: &[u8]) -> bool
+    ensures { result ≡ is_plain word.now }
+{
+    match word.split_first() {
+        None => false,
+        Some((first, rest)) => *first != b'0' || rest.is_empty(),
+    }
+}
+
+/// The number with a digit more, None where the byte is none or the number is too large.
+fn with_digit(number: u64, digit: u8) -> Option<u64>
+    ensures { result ≡ with_digit number digit }
+{
+    if digit < b'0' || digit > b'9' {
+        return None;
+    }
+    number.checked_mul(10)?.checked_add(u64::from(digit - b'0'))
+}
+
+/// The bytes of a word of hexadecimal digits in lower case, two for each byte. None where it is no such word.
+pub(crate) fn bytes_of(alloc: Global, word: &[u8]) -> Result<Option<Vec<u8>>, AllocError>
+    ensures { IfOk result (λ bytes. Reads bytes (λ b. b.items) (raw_in word.now)) }
+{
+    if word.len() % 2 != 0 {
+        return Ok(None);
+    }
+    let pairs = word.len() / 2;
+    let mut bytes = Vec::with_capacity(alloc, pairs)?;
+    'pairs: for i in 0..pairs {
+        match byte_of(word[2 * i], word[2 * i + 1]) {
+            Some(byte) => bytes.push(byte)?,
+            None => return Ok(None),
+        }
+    }
+    Ok(Some(bytes))
+}
+
+/// The byte of two hexadecimal digits.
+fn byte_of(high: u8, low: u8) -> Option<u8>
+    ensures { result ≡ byte_of high low }
+{
+    Some(16 * hex_value(high)? + hex_value(low)?)
+}
+
+/// The value of a hexadecimal digit in lower case, below 16.
+fn hex_value(digit: u8) -> Option<u8>
+    ensures value { result ≡ hex_value digit }
+    ensures small { IfSome result (λ n. n < 16) }
+{
+    match digit {
+        b'0'..=b'9' => Some(digit - b'0'),
+        b'a'..=b'f' => Some(digit - 87),
+        _ => None,
+    }
+}
