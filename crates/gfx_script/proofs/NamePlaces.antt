@@ -1,0 +1,381 @@
+-- The numbers of names, as names are defined one after the other.
+use Rattle.std.proofs.Common.{◌≡◌, ℕ, zero, suc, ◌+◌, ◌<◌, ◌≤◌, nat_eq, ◌&&◌, ◌||◌, Bool, true, false, cond, List, [], ◌∷◌, ◌++◌, map, length, take, drop, Option, Some, None, is_some, refl, sym, ap, subst, ◌∙◌, arith, append_assoc, append-nil}
+use Rattle.std.specs.List.{list_any, position_from}
+use Rattle.std.proofs.Common.{get_or}
+use Rattle.std.specs.Str.{bytes_eq}
+use Rattle.std.specs.BTreeMap.{BTreeMap, is_at}
+use Rattle.std.specs.Map.{lookup, update}
+use Rattle.std.specs.Cmp.Lexicographic.{slice_cmp}
+use Rattle.std.specs.Ordering.{nat_cmp}
+use Rattle.std.proofs.lemmas.List.{length-map, map-append, take_more}
+use Rattle.std.specs.Map.{KeepsOthers, IsKeyTest, AreApart}
+use Rattle.std.specs.BTreeMap as tree
+use Rattle.std.specs.Ordering.{is_eq, eq_by_cmp}
+use Rattle.std.specs.declared.cmp.Ordering.{Ordering}
+use Rattle.std.specs.Cmp.{eq_by_cmp_equiv}
+use Rattle.std.specs.Cmp.Lexicographic.{bytes_decides, nat_list_cmp_total, nat_list_eq_equiv}
+use Rattle.std.proofs.lemmas.Bool.{cases_Bool, cond-true, cond-false}
+use Rattle.std.proofs.lemmas.Map.Text.{is_eq-slice_cmp}
+use Rattle.std.proofs.lemmas.Bool.Decides.{nat_tests}
+use Rattle.std.specs.Prelude.{Vec}
+use Rattle.std.proofs.Common.{Global, Bor}
+use Rattle.gfx_model.specs.Checks.{same_list}
+use Rattle.gfx_script_model.specs.Scripts.{Defined, number_of, may_use, is_known, repeats, define}
+use Rattle.gfx_text_grammar.proofs.Lists.{same_list-true}
+use Rattle.gfx_script.specs.declared.names.Definition.{Definition}
+use Rattle.gfx_script.specs.Numbered.{definition_of, place_of, nothing_defined, allowed_at, ArePlaces, is_taken, clashes}
+
+-- the first of two that is there
+abbrev pub first_of : Option ℕ → Option ℕ → Option ℕ
+first_of (Some n) o = Some n
+first_of None o = o
+
+-- ---- positions
+
+position-append : {X : Type 0} (t : X → Bool) (i : ℕ) (xs : List X) (y : X) → position_from t i (xs ++ y ∷ []) ≡ first_of (position_from t i xs) (cond (t y) (Some (i + length xs)) None)
+position-append t i [] y = ap (λ n. cond (t y) (Some n) None) (let e : i ≡ i + 0 = omega arith in e)
+position-append t i (x ∷ xs) y = by (t x) (position-append t (i + 1) xs y)
+  where
+    by : (b : Bool) → position_from t (i + 1) (xs ++ y ∷ []) ≡ first_of (position_from t (i + 1) xs) (cond (t y) (Some (i + 1 + length xs)) None)
+        → cond b (Some i) (position_from t (i + 1) (xs ++ y ∷ [])) ≡ first_of (cond b (Some i) (position_from t (i + 1) xs)) (cond (t y) (Some (i + length (x ∷ xs))) None)
+    by true h = refl
+    by false h = h ∙ ap (λ n. first_of (position_from t (i + 1) xs) (cond (t y) (Some n) None)) (let e : i + 1 + length xs ≡ i + suc (length xs) = omega arith in e)
+
+position-within : {X : Type 0} (t : X → Bool) (i : ℕ) (xs : List X) (n : ℕ) → position_from t i xs ≡ Some n → (i ≤ n) × (n < i + length xs)
+position-within t i [] n h = absurd cc
+position-within t i (x ∷ xs) n h = by (t x) (position-within t (i + 1) xs n) h
+  where
+    by : (b : Bool) → (position_from t (i + 1) xs ≡ Some n → (i + 1 ≤ n) × (n < i + 1 + length xs)) → cond b (Some i) (position_from t (i + 1) xs) ≡ Some n
+        → (i ≤ n) × (n < i + length (x ∷ xs))
+    by true more e = let same : i ≡ n = cc in (omega arith, omega arith)
+    by false more e = let w = more e in (omega (arith, w.0), omega (arith, w.1))
+
+-- a number is one of the definitions'
+pub number-within : (allowed : Defined → Bool) (names : List Defined) (text : List ℕ) (n : ℕ) → number_of allowed names text ≡ Some n → (1 ≤ n) × (n ≤ length names)
+number-within allowed names text n h =
+    let w = position-within (λ d. same_list d.name text && allowed d) 1 names n h in (w.0, omega (arith, w.1))
+
+-- the number of a name with one more definition
+pub number-push : (allowed : Defined → Bool) (names : List Defined) (d : Defined) (text : List ℕ)
+    → number_of allowed (names ++ d ∷ []) text ≡ first_of (number_of allowed names text) (cond (same_list d.name text && allowed d) (Some (length names + 1)) None)
+number-push allowed names d text =
+    position-append (λ d. same_list d.name text && allowed d) 1 names d
+    ∙ ap (λ n. first_of (number_of allowed names text) (cond (same_list d.name text && allowed d) (Some n) None)) (let e : 1 + length names ≡ length names + 1 = omega arith in e)
+
+-- a number stays when more names are defined
+pub number-stays : (names more : List Defined) (text : List ℕ) (n : ℕ) → number_of (λ d. true) names text ≡ Some n → number_of (λ d. true) (names ++ more) text ≡ Some n
+number-stays names [] text n h = ap (λ (z : List Defined). number_of (λ d. true) z text) (append-nil names) ∙ h
+number-stays names (d ∷ more) text n h =
+    let one : number_of (λ d. true) (names ++ d ∷ []) text ≡ Some n =
+    number-push (λ d. true) names d text ∙ ap (λ o. first_of o (cond (same_list d.name text && true) (Some (length names + 1)) None)) h in
+    ap (λ (z : List Defined). number_of (λ d. true) z text) (sym (append_assoc names (d ∷ []) more)) ∙ number-stays (names ++ d ∷ []) more text n one
+
+-- ---- words
+
+pub same-bytes : (xs ys : List ℕ) → same_list xs ys ≡ bytes_eq xs ys
+same-bytes [] [] = refl
+same-bytes [] (y ∷ ys) = refl
+same-bytes (x ∷ xs) [] = refl
+same-bytes (x ∷ xs) (y ∷ ys) = ap (λ b. nat_eq x y && b) (same-bytes xs ys)
+
+pub same_list-same : (xs : List ℕ) → same_list xs xs ≡ true
+same_list-same [] = refl
+same_list-same (x ∷ xs) = ap (λ b. b && same_list xs xs) (let e : nat_eq x x ≡ true = grind (arith, nat_tests) in e) ∙ same_list-same xs
+
+-- ---- places
+
+-- no places without names
+pub no_places : (places : BTreeMap (Vec ℕ Global) ℕ) → places.entries ≡ [] → ArePlaces [] places
+no_places places e allowed text = ap (λ es. allowed_at allowed [] (lookup (is_at (λ k. slice_cmp nat_cmp text k.items)) es)) (sym e)
+
+abbrev all : Defined → Bool
+all d = true
+
+-- the place of a name is one of the names'
+pub place-within : (names : List Defined) (places : BTreeMap (Vec ℕ Global) ℕ) (text : List ℕ) (i : ℕ) → ArePlaces names places → place_of places text ≡ Some i → i < length names
+place-within names places text i are h =
+    let w = number-within all names text (i + 1) (are all text ∙ ap (allowed_at all names) h) in omega (arith, w.1)
+
+-- the definitions in front are as they were
+front_same : (names : List Defined) (d : Defined) (i : ℕ) → i < length names → get_or (names ++ d ∷ []) i nothing_defined ≡ get_or names i nothing_defined
+front_same [] d i l = absurd (omega arith)
+front_same (n ∷ names) d zero l = refl
+front_same (n ∷ names) d (suc i) l = front_same names d i (omega arith)
+
+last_is : (names : List Defined) (d : Defined) → get_or (names ++ d ∷ []) (length names) nothing_defined ≡ d
+last_is [] d = refl
+last_is (n ∷ names) d = last_is names d
+
+allowed-front : (allowed : Defined → Bool) (names : List Defined) (d : Defined) (o : Option ℕ) → ((i : ℕ) → o ≡ Some i → i < length names)
+    → allowed_at allowed names o ≡ allowed_at allowed (names ++ d ∷ []) o
+allowed-front allowed names d None h = refl
+allowed-front allowed names d (Some i) h = ap (λ z. cond (allowed z) (Some (i + 1)) None) (sym (front_same names d i (h i refl)))
+
+-- one more name, which was not there
+pub places-push : (names : List Defined) (d : Defined) (old new : BTreeMap (Vec ℕ Global) ℕ) → ArePlaces names old → place_of old d.name ≡ None
+    → ((text : List ℕ) → place_of new text ≡ cond (bytes_eq d.name text) (Some (length names)) (place_of old text))
+    → ArePlaces (names ++ d ∷ []) new
+places-push names d old new are none puts allowed text =
+    number-push allowed names d text ∙ ap (λ o. first_of o (cond (same_list d.name text && allowed d) (Some (length names + 1)) None)) (are allowed text)
+    ∙ by (bytes_eq d.name text) refl ∙ ap (allowed_at allowed (names ++ d ∷ [])) (sym (puts text))
+  where
+    first_none : (o : Option ℕ) → first_of o None ≡ o
+    first_none None = refl
+    first_none (Some n) = refl
+
+    by : (b : Bool) → bytes_eq d.name text ≡ b
+        → first_of (allowed_at allowed names (place_of old text)) (cond (same_list d.name text && allowed d) (Some (length names + 1)) None)
+        ≡ allowed_at allowed (names ++ d ∷ []) (cond b (Some (length names)) (place_of old text))
+    by true e =
+        let same : same_list d.name text ≡ true = same-bytes d.name text ∙ e in
+        let not_there : place_of old text ≡ None = ap (place_of old) (sym (same_list-true d.name text same)) ∙ none in
+        ap (λ o. first_of (allowed_at allowed names o) (cond (same_list d.name text && allowed d) (Some (length names + 1)) None)) not_there
+        ∙ ap (λ c. cond (c && allowed d) (Some (length names + 1)) None) same
+        ∙ ap (λ z. cond (allowed z) (Some (length names + 1)) None) (sym (last_is names d))
+    by false e =
+        let other : same_list d.name text ≡ false = same-bytes d.name text ∙ e in
+        ap (λ c. first_of (allowed_at allowed names (place_of old text)) (cond (c && allowed d) (Some (length names + 1)) None)) other
+        ∙ first_none (allowed_at allowed names (place_of old text))
+        ∙ allowed-front allowed names d (place_of old text) (λ i h. place-within names old text i are h)
+
+-- the definition at a place
+pub definition-at : (items : List Definition) (i : ℕ) (d : Definition) → i < length items → d ≡ get_or items i d → get_or (map definition_of items) i nothing_defined ≡ definition_of d
+definition-at [] i d l e = absurd (omega arith)
+definition-at (x ∷ xs) zero d l e = ap definition_of (sym e)
+definition-at (x ∷ xs) (suc i) d l e = definition-at xs i d (omega arith) e
+
+-- the number of a text by the definition at its place
+pub number-at : (allowed : Defined → Bool) (names : List Defined) (places : BTreeMap (Vec ℕ Global) ℕ) (text : List ℕ) (i : ℕ) (d : Defined) → ArePlaces names places
+    → place_of places text ≡ Some i → get_or names i nothing_defined ≡ d → number_of allowed names text ≡ cond (allowed d) (Some (i + 1)) None
+number-at allowed names places text i d are at is =
+    are allowed text ∙ ap (allowed_at allowed names) at ∙ ap (λ (z : Defined). cond (allowed z) (Some (i + 1)) None) is
+
+-- a name without a place has no number
+pub number-none : (allowed : Defined → Bool) (names : List Defined) (places : BTreeMap (Vec ℕ Global) ℕ) (text : List ℕ) → ArePlaces names places
+    → place_of places text ≡ None → number_of allowed names text ≡ None
+number-none allowed names places text are at = are allowed text ∙ ap (allowed_at allowed names) at
+
+-- a name is taken where it has a place
+pub taken-place : (names : List Defined) (places : BTreeMap (Vec ℕ Global) ℕ) (text : List ℕ) → ArePlaces names places → is_taken names text ≡ is_some (place_of places text)
+taken-place names places text are = ap is_some (are all text) ∙ by (place_of places text)
+  where
+    by : (o : Option ℕ) → is_some (allowed_at all names o) ≡ is_some o
+    by None = refl
+    by (Some i) = refl
+
+-- a name that may be used has its number among all names
+pub only-number : (allowed : Defined → Bool) (names : List Defined) (places : BTreeMap (Vec ℕ Global) ℕ) (text : List ℕ) (n : ℕ) → ArePlaces names places
+    → number_of allowed names text ≡ Some n → number_of all names text ≡ Some n
+only-number allowed names places text n are h = are all text ∙ by (place_of places text) (sym (are allowed text) ∙ h)
+  where
+    by : (o : Option ℕ) → allowed_at allowed names o ≡ Some n → allowed_at all names o ≡ Some n
+    by None e = absurd cc
+    by (Some i) e = at (allowed (get_or names i nothing_defined)) e
+      where
+        at : (b : Bool) → cond b (Some (i + 1)) None ≡ Some n → Some (i + 1) ≡ Some n
+        at true k = k
+        at false k = absurd cc
+
+-- ---- a map from texts after a change of one
+
+abbrev VecMap : Type 0
+VecMap = BTreeMap (Vec ℕ Global) ℕ
+
+abbrev vec_cmp : Vec ℕ Global → Vec ℕ Global → Ordering
+vec_cmp x y = slice_cmp nat_cmp x.items y.items
+
+apart_in_order : (bs cs ks : List ℕ) → bytes_eq bs cs ≡ false → is_eq (slice_cmp nat_cmp bs ks) ≡ true → is_eq (slice_cmp nat_cmp cs ks) ≡ false
+apart_in_order bs cs ks n y =
+    is_eq-slice_cmp cs ks ∙ nat_list_eq_equiv.symm cs ks ∙ sym (nat_list_eq_equiv.congr bs ks cs (sym (is_eq-slice_cmp bs ks) ∙ y)) ∙ n
+
+others : (old new : List (Vec ℕ Global × ℕ)) (test : Vec ℕ Global → Bool) → KeepsOthers (eq_by_cmp vec_cmp) test old new → (other : Vec ℕ Global → Bool)
+    → IsKeyTest (eq_by_cmp vec_cmp) other → AreApart test other → lookup other new ≡ lookup other old
+unfolding KeepsOthers
+others old new test h = h
+
+-- what a map has at each text after a change at one
+pub place-updates : (m n : VecMap) (bs : List ℕ) (w : Option ℕ) → tree.UpdatesBy vec_cmp (λ k. slice_cmp nat_cmp bs k.items) m n w
+    → (cs : List ℕ) → place_of n cs ≡ cond (bytes_eq bs cs) w (place_of m cs)
+place-updates m n bs w h cs = by (bytes_eq bs cs) refl
+  where
+    by : (b : Bool) → bytes_eq bs cs ≡ b → place_of n cs ≡ cond b w (place_of m cs)
+    by true e = ap (place_of n) (sym ((bytes_decides bs cs).0 e)) ∙ h.1
+    by false e =
+        others m.entries n.entries _ h.3 (λ k. is_eq (slice_cmp nat_cmp cs k.items)) (λ x y. (eq_by_cmp_equiv nat_list_cmp_total).congr cs x.items y.items)
+        (λ k. apart_in_order bs cs k.items e)
+
+-- ---- the names of a line
+
+-- one more name is defined
+pub taken-push : (names : List Defined) (d : Defined) (text : List ℕ) → is_taken (names ++ d ∷ []) text ≡ (is_taken names text || same_list d.name text)
+taken-push names d text = ap is_some (number-push all names d text) ∙ by (number_of all names text) (same_list d.name text)
+  where
+    by : (o : Option ℕ) (b : Bool) → is_some (first_of o (cond (b && true) (Some (length names + 1)) None)) ≡ (is_some o || b)
+    by (Some n) b = refl
+    by None true = refl
+    by None false = refl
+
+any-push : (names : List Defined) (d : Defined) (texts : List (List ℕ))
+    → list_any (is_taken (names ++ d ∷ [])) texts ≡ (list_any (is_taken names) texts || list_any (same_list d.name) texts)
+any-push names d [] = refl
+any-push names d (t ∷ ts) =
+    (λ i. taken-push names d t i || any-push names d ts i)
+    ∙ by (is_taken names t) (same_list d.name t) (list_any (is_taken names) ts) (list_any (same_list d.name) ts)
+  where
+    by : (a b c e : Bool) → ((a || b) || (c || e)) ≡ ((a || c) || (b || e))
+    by true b c e = refl
+    by false true true e = refl
+    by false true false e = refl
+    by false false c e = refl
+
+-- names clash where the first one is taken, or the others clash once it is defined
+pub clash-step : (names : List Defined) (d : Defined) (ts : List (List ℕ)) → clashes names (d.name ∷ ts) ≡ (is_taken names d.name || clashes (names ++ d ∷ []) ts)
+clash-step names d ts =
+    by (is_taken names d.name) (list_any (is_taken names) ts) (list_any (same_list d.name) ts) (repeats ts)
+    ∙ ap (λ b. is_taken names d.name || (b || repeats ts)) (sym (any-push names d ts))
+  where
+    by : (a b c e : Bool) → ((a || b) || (c || e)) ≡ (a || ((b || c) || e))
+    by true b c e = refl
+    by false true c e = refl
+    by false false c e = refl
+
+-- names are defined one after the other
+pub define-step : (phase thread : ℕ) (names : List Defined) (t : List ℕ) (ts : List (List ℕ))
+    → define phase thread names (t ∷ ts) ≡ define phase thread (define phase thread names (t ∷ [])) ts
+define-step phase thread names t ts = sym (append_assoc names (record { name = t; phase = phase; thread = thread } ∷ []) (map (λ u. record { name = u; phase = phase; thread = thread }) ts))
+
+-- ---- the loop over the names of a line
+
+module _ (phase thread : ℕ) where
+  -- what a loop over the names of a line keeps: the names so far are defined, none of them was taken, and their numbers
+  pub record Defined_so_far (before now : List Defined) (texts : List (List ℕ)) (i : ℕ) (numbers : List ℕ) : Type 0 where
+    pub names : now ≡ define phase thread before (take i texts)
+    pub clash : clashes before texts ≡ clashes now (drop i texts)
+    pub told : map (number_of (λ d. true) now) (take i texts) ≡ map Some numbers
+
+  -- the numbers of names stay when one more is defined
+  numbers_stay : (now : List Defined) (d : Defined) (texts : List (List ℕ)) (numbers : List ℕ) → map (number_of (λ d. true) now) texts ≡ map Some numbers
+      → map (number_of (λ d. true) (now ++ d ∷ [])) texts ≡ map Some numbers
+  numbers_stay now d [] numbers h = h
+  numbers_stay now d (t ∷ ts) [] h = absurd cc
+  numbers_stay now d (t ∷ ts) (n ∷ ns) h =
+      let first : number_of (λ d. true) now t ≡ Some n = cc in
+      let rest : map (number_of (λ d. true) now) ts ≡ map Some ns = cc in
+      λ i. number-stays now (d ∷ []) t n first i ∷ numbers_stay now d ts ns rest i
+
+  -- the record of a definition
+  abbrev defined_as : List ℕ → Defined
+  defined_as t = record { name = t; phase = phase; thread = thread }
+
+  not_there : (o : Option ℕ) → is_some o ≡ false → o ≡ None
+  not_there None h = refl
+  not_there (Some n) h = absurd cc
+
+  new_number : (now : List Defined) (t : List ℕ) → is_taken now t ≡ false → number_of (λ d. true) (now ++ defined_as t ∷ []) t ≡ Some (length now + 1)
+  new_number now t new =
+      number-push (λ d. true) now (defined_as t) t
+      ∙ ap (λ o. first_of o (cond (same_list t t && true) (Some (length now + 1)) None)) (not_there (number_of (λ d. true) now t) new)
+      ∙ ap (λ b. cond (b && true) (Some (length now + 1)) None) (same_list-same t)
+
+  -- nothing is defined yet
+  pub so_far_begins : (before : List Defined) (texts : List (List ℕ)) → Defined_so_far before before texts 0 []
+  so_far_begins before texts = record { names = sym (append-nil before); clash = refl; told = refl }
+
+  -- one name more is defined
+  pub so_far_goes_on : (before now after : List Defined) (texts : List (List ℕ)) (i : ℕ) (numbers : List ℕ) (n : ℕ) (t : List ℕ) → i < length texts → t ≡ get_or texts i []
+      → Defined_so_far before now texts i numbers → is_taken now t ≡ false → after ≡ define phase thread now (t ∷ []) → n ≡ length now + 1
+      → Defined_so_far before after texts (i + 1) (numbers ++ n ∷ [])
+  so_far_goes_on before now after texts i numbers n t l at h new is number =
+      let more : take (i + 1) texts ≡ take i texts ++ t ∷ [] = take_more texts i [] l ∙ ap (λ (z : List ℕ). take i texts ++ z ∷ []) (sym at) in
+      let left : drop i texts ≡ t ∷ drop (i + 1) texts = drop_more texts i l ∙ ap (λ (z : List ℕ). z ∷ drop (i + 1) texts) (sym at) in
+      record {
+        names =
+            is ∙ ap (λ (z : List Defined). z ++ defined_as t ∷ []) h.names
+            ∙ append_assoc before (map defined_as (take i texts)) (defined_as t ∷ [])
+            ∙ ap (λ (z : List Defined). before ++ z) (sym (map-append defined_as (take i texts) (t ∷ [])))
+            ∙ ap (define phase thread before) (sym more);
+        clash =
+            h.clash ∙ ap (clashes now) left ∙ clash-step now (defined_as t) (drop (i + 1) texts)
+            ∙ ap (λ b. b || clashes (now ++ defined_as t ∷ []) (drop (i + 1) texts)) new
+            ∙ ap (λ (z : List Defined). clashes z (drop (i + 1) texts)) (sym is);
+        told =
+            ap (map (number_of (λ d. true) after)) more
+            ∙ ap (λ (z : List Defined). map (number_of (λ d. true) z) (take i texts ++ t ∷ [])) is
+            ∙ map-append (number_of (λ d. true) (now ++ defined_as t ∷ [])) (take i texts) (t ∷ [])
+            ∙ (λ j. numbers_stay now (defined_as t) (take i texts) numbers h.told j ++ new_number now t new j ∷ [])
+            ∙ ap (λ k. map Some numbers ++ Some k ∷ []) (sym number)
+            ∙ sym (map-append Some numbers (n ∷ []));
+      }
+    where
+      drop_more : (ts : List (List ℕ)) (k : ℕ) → k < length ts → drop k ts ≡ get_or ts k [] ∷ drop (k + 1) ts
+      drop_more [] k l = absurd (omega arith)
+      drop_more (u ∷ us) zero l = refl
+      drop_more (u ∷ us) (suc k) l = drop_more us k (omega arith) ∙ ap (λ n. get_or us k [] ∷ drop n (u ∷ us)) (let e : suc (k + 1) ≡ suc k + 1 = omega arith in e)
+
+  -- a taken name makes a clash
+  pub so_far_clashes : (before now : List Defined) (texts : List (List ℕ)) (i : ℕ) (numbers : List ℕ) → i < length texts
+      → Defined_so_far before now texts i numbers → is_taken now (get_or texts i []) ≡ true → clashes before texts ≡ true
+  so_far_clashes before now texts i numbers l h taken =
+      h.clash ∙ ap (clashes now) (drop_more texts i l) ∙ clash-step now (defined_as (get_or texts i [])) (drop (i + 1) texts)
+      ∙ ap (λ b. b || clashes (now ++ defined_as (get_or texts i []) ∷ []) (drop (i + 1) texts)) taken
+    where
+      drop_more : (ts : List (List ℕ)) (k : ℕ) → k < length ts → drop k ts ≡ get_or ts k [] ∷ drop (k + 1) ts
+      drop_more [] k l = absurd (omega arith)
+      drop_more (u ∷ us) zero l = refl
+      drop_more (u ∷ us) (suc k) l = drop_more us k (omega arith) ∙ ap (λ n. get_or us k [] ∷ drop n (u ∷ us)) (let e : suc (k + 1) ≡ suc k + 1 = omega arith in e)
+
+  -- all names are defined
+  pub so_far_ends : (before now : List Defined) (texts : List (List ℕ)) (i : ℕ) (numbers : List ℕ) → length texts ≤ i → Defined_so_far before now texts i numbers
+      → (clashes before texts ≡ false) × (now ≡ define phase thread before texts) × (map (number_of (λ d. true) now) texts ≡ map Some numbers)
+  so_far_ends before now texts i numbers l h =
+      let all_taken : take i texts ≡ texts = take-all texts i l in
+      let none_left : drop i texts ≡ [] = drop-all texts i l in
+      (h.clash ∙ ap (clashes now) none_left, h.names ∙ ap (define phase thread before) all_taken, ap (map (number_of (λ d. true) now)) (sym all_taken) ∙ h.told)
+    where
+      take-all : (ts : List (List ℕ)) (k : ℕ) → length ts ≤ k → take k ts ≡ ts
+      take-all [] zero l = refl
+      take-all [] (suc k) l = refl
+      take-all (u ∷ us) zero l = absurd (omega arith)
+      take-all (u ∷ us) (suc k) l = ap (λ (z : List (List ℕ)). u ∷ z) (take-all us k (omega arith))
+
+      drop-all : (ts : List (List ℕ)) (k : ℕ) → length ts ≤ k → drop k ts ≡ []
+      drop-all [] zero l = refl
+      drop-all [] (suc k) l = refl
+      drop-all (u ∷ us) zero l = absurd (omega arith)
+      drop-all (u ∷ us) (suc k) l = drop-all us k (omega arith)
+
+-- ---- for the methods of `Names`
+
+-- the number of a name at its place
+pub number-found : (phase thread : ℕ) (items : List Definition) (places : BTreeMap (Vec ℕ Global) ℕ) (names : List Defined) (text : List ℕ) (i : ℕ) (d : Definition) (b : Bool)
+    → map definition_of items ≡ names → ArePlaces (map definition_of items) places → place_of places text ≡ Some i → d ≡ get_or items i d → b ≡ may_use phase thread (definition_of d)
+    → number_of (may_use phase thread) names text ≡ cond b (Some (i + 1)) None
+number-found phase thread items places names text i d b view are at is within =
+    let few : i < length items = omega (arith, place-within (map definition_of items) places text i are at, length-map items definition_of) in
+    ap (λ (z : List Defined). number_of (may_use phase thread) z text) (sym view)
+    ∙ number-at (may_use phase thread) (map definition_of items) places text i (definition_of d) are at (definition-at items i d few is)
+    ∙ ap (λ c. cond c (Some (i + 1)) None) (sym within)
+
+-- a place is one of the definitions'
+pub place-few : (items : List Definition) (places : BTreeMap (Vec ℕ Global) ℕ) (text : List ℕ) (i : ℕ) → ArePlaces (map definition_of items) places → place_of places text ≡ Some i → i < length items
+place-few items places text i are at = omega (arith, place-within (map definition_of items) places text i are at, length-map items definition_of)
+
+-- one more definition, which was not there
+pub places-defined : (items : List Definition) (d : Definition) (old new : BTreeMap (Vec ℕ Global) ℕ) (key : List ℕ) (place : ℕ) → ArePlaces (map definition_of items) old
+    → is_some (place_of old d.name.now) ≡ false → place ≡ length items → key ≡ d.name.now
+    → ((cs : List ℕ) → place_of new cs ≡ cond (bytes_eq key cs) (Some place) (place_of old cs)) → ArePlaces (map definition_of (items ++ d ∷ [])) new
+places-defined items d old new key place are none at same puts =
+    subst (λ (z : List Defined). ArePlaces z new) (sym (map-append definition_of items (d ∷ [])))
+    (places-push (map definition_of items) (definition_of d) old new are (absent (place_of old d.name.now) none)
+    (λ cs. puts cs ∙ ap (λ (z : List ℕ). cond (bytes_eq z cs) (Some place) (place_of old cs)) same
+    ∙ ap (λ n. cond (bytes_eq d.name.now cs) (Some n) (place_of old cs)) (at ∙ sym (length-map items definition_of))))
+  where
+    absent : (o : Option ℕ) → is_some o ≡ false → o ≡ None
+    absent None h = refl
+    absent (Some n) h = absurd cc
+
+-- the text of a word
+pub text-at : (words : List (Bor (List ℕ))) (i : ℕ) (d : Bor (List ℕ)) → i < length words → get_or (map (λ t. t.now) words) i [] ≡ (get_or words i d).now
+text-at [] i d l = absurd (omega arith)
+text-at (w ∷ ws) zero d l = refl
+text-at (w ∷ ws) (suc i) d l = text-at ws i d (omega arith)

@@ -1,0 +1,25 @@
+use Rattle.std.proofs.Common.{◌≡◌, ◌<◌, map, length, true, false, refl, sym, subst, arith}
+use Rattle.std.proofs.lemmas.List.{length-map}
+use Rattle.gfx_script.specs.Numbered.{is_taken}
+use Rattle.gfx_script.proofs.NamePlaces.{so_far_goes_on, so_far_clashes, text-at}
+use Rattle.gfx_script.proofs.words.define_all.Goals as goal
+
+pub returns-in-None : goal.returns-in-None
+returns-in-None c =
+    let h = rw c.in-None.is at c.in_ok-number.ensures in
+    let texts = map (λ t. t.now) c.args.words.now in
+    let few : c.words.word-index < length texts = omega (arith, c.words-test.true, length-map c.args.words.now (λ t. t.now)) in
+    (
+      refl,
+      so_far_clashes c.args.phase c.args.thread c.args.names.now c.words.names texts c.words.word-index c.words.numbers.items few c.words.invariant
+          (subst (λ z. is_taken c.words.names z ≡ true) (sym (text-at c.args.words.now c.words.word-index _ c.words-test.true)) h.0),
+    )
+
+pub words-preserved : goal.words-preserved
+words-preserved c =
+    let h = rw c.in-Some.is at c.in_ok-number.ensures in
+    let texts = map (λ t. t.now) c.args.words.now in
+    let few : c.words.word-index < length texts = omega (arith, c.words-test.true, length-map c.args.words.now (λ t. t.now)) in
+    rw c.in_ok-push-in-Some.ensures.items
+    (so_far_goes_on c.args.phase c.args.thread c.args.names.now c.words.names c.define.new.self texts c.words.word-index c.words.numbers.items c.in-Some.number _ few
+    (sym (text-at c.args.words.now c.words.word-index _ c.words-test.true)) c.words.invariant h.0 h.1 h.2)

@@ -1,0 +1,31 @@
+-- What reading answers: a line, the names of a line, a script.
+use Rattle.std.specs.Prelude.{◌≡◌, ℕ, Bool, true, false, List, map, Option, Some, None, Result, Ok, Err, codes}
+use Rattle.gfx_script_model.specs.Scripts.{Kind, Outcome, reads, refuses, Reading, Defined, number_of, define, name_taken, Parsed, parses, fails}
+use Rattle.gfx_script.specs.Kinds.{kind_of}
+use Rattle.gfx_script.specs.Numbered.{clashes}
+use Rattle.gfx_script.specs.declared.fault.ScriptFault.{ScriptFault}
+use Rattle.gfx_script.specs.declared.fault.ScriptFault.TheVariants as script_fault
+use Rattle.gfx_script.specs.declared.line_fault.LineFault.{LineFault}
+use Rattle.gfx_script.specs.declared.line_fault.LineFault.TheVariants.{Refused, WantMemory}
+
+-- a line is refused for this kind, or memory is wanting
+abbrev pub IsRefusal : Outcome → LineFault → Type 0
+IsRefusal outcome (Refused kind) = outcome ≡ refuses (kind_of kind)
+IsRefusal outcome WantMemory = Unit {0}
+
+-- what a line gives, and what was read then
+abbrev pub GivesOutcome : {X : Type 0} → Outcome → Reading → Result X LineFault → Type 0
+GivesOutcome outcome after (Ok _) = outcome ≡ reads after
+GivesOutcome outcome after (Err fault) = IsRefusal outcome fault
+
+-- the names of a line are defined, with these numbers, or one of them is taken
+abbrev pub DefinesAll : (phase thread : ℕ) → List Defined → List (List ℕ) → Result (List ℕ) LineFault → List Defined → Type 0
+DefinesAll phase thread before texts (Ok numbers) after =
+    (clashes before texts ≡ false) × (after ≡ define phase thread before texts) × (map (number_of (λ d. true) after) texts ≡ map Some numbers)
+DefinesAll phase thread before texts (Err (Refused kind)) after = (kind_of kind ≡ name_taken) × (clashes before texts ≡ true)
+DefinesAll phase thread before texts (Err WantMemory) after = Unit {0}
+
+-- the fault of a text whose line with this number has it
+abbrev pub fault_at : ℕ → LineFault → ScriptFault
+fault_at line (Refused kind) = script_fault.Bad line kind
+fault_at line WantMemory = script_fault.WantMemory

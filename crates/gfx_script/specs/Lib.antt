@@ -1,0 +1,14 @@
+pub mod Kinds
+pub mod Cuts
+pub mod Early
+pub mod Plain
+pub mod Numbered
+pub mod Puts
+pub mod Kept
+pub mod Line
+pub mod Text
+pub mod Resolved
+pub mod Answers
+pub mod Staged
+pub mod Stated
+pub mod State

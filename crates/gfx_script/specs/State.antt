@@ -1,0 +1,72 @@
+-- What has been read, as the definitions have it.
+use Rattle.std.specs.Prelude.{◌≡◌, ℕ, ◌==◌, Bool, List, [], ◌∷◌, ◌++◌, map, Option, Some, Result, Ok, Err}
+use Rattle.std.specs.List.{list_any}
+use Rattle.gfx_script_model.specs.Statements.{Form}
+use Rattle.gfx_script_model.specs.Statements.Form.{states}
+use Rattle.gfx_grammar.specs.Reading.{◌>>=◌}
+use Rattle.gfx_text_grammar.specs.StatementReading.{read_statement}
+use Rattle.gfx_script_model.specs.Scripts as script
+use Rattle.gfx_script_model.specs.Scripts.{in_order, Parsed, parses, fails}
+use Rattle.gfx_script.specs.Kinds.{kind_of}
+use Rattle.gfx_script.specs.Line.{line_of, part_of, phase_of, phases_of}
+use Rattle.gfx_script.specs.declared.line.Line.{Line}
+use Rattle.gfx_script.specs.declared.script.Part.{Part}
+use Rattle.gfx_script.specs.declared.script.Script.{Script}
+use Rattle.gfx_script.specs.declared.fault.ScriptFault.{ScriptFault}
+use Rattle.gfx_script.specs.declared.fault.ScriptFault.TheVariants.{Bad, WantMemory}
+use Rattle.gfx_script.specs.declared.reading.Stage.{Stage}
+use Rattle.gfx_script.specs.declared.reading.Stage.TheVariants.{NoPhase, InPhase, InThread}
+use Rattle.gfx_script.specs.declared.reading.Reading.{Reading}
+
+-- the lines of the thread that is read
+abbrev pub open_part : Stage → List Line → List script.Part
+open_part (InThread thread) lines = record { thread = thread; lines = map line_of lines } ∷ []
+open_part _ lines = []
+
+-- the phase that is read
+abbrev pub open_phase : Stage → List Part → List Line → List (List script.Part)
+open_phase NoPhase parts lines = []
+open_phase stage parts lines = (map part_of parts ++ open_part stage lines) ∷ []
+
+-- the phases so far, in order
+abbrev pub read_phases : Reading → List (List script.Part)
+read_phases r = phases_of r.phases.items ++ open_phase r.stage r.parts.items r.lines.items
+
+-- what has been read, with the newest first
+abbrev pub reading_of : Reading → script.Reading
+reading_of r = record { minor = r.minor; phases = in_order (read_phases r); names = r.names }
+
+-- the form of the tokens as a statement
+abbrev pub stated_form : ℕ → List (List ℕ) → Option Form
+stated_form m tokens = read_statement m tokens >>= λ e. Some (states e)
+
+-- the thread stood in the phase that is read
+abbrev pub thread_stood : ℕ → Reading → Bool
+thread_stood thread r = list_any (λ p. p.thread == thread) (map part_of r.parts.items ++ open_part r.stage r.lines.items)
+
+-- the version and the names stay
+pub record SameNames (before after : Reading) : Type 0 where
+  pub minor : after.minor ≡ before.minor
+  pub names : after.names ≡ before.names
+
+-- the thread that is read stands with the others, and has no more lines
+pub record EndsPart (before after : Reading) : Type 0 where
+  pub same : SameNames before after
+  pub stage : after.stage ≡ before.stage
+  pub phases : after.phases.items ≡ before.phases.items
+  pub parts : map part_of after.parts.items ≡ map part_of before.parts.items ++ open_part before.stage before.lines.items
+  pub lines : after.lines.items ≡ []
+
+-- the phase that is read stands with the others, and has no more threads
+pub record EndsPhase (before after : Reading) : Type 0 where
+  pub same : SameNames before after
+  pub stage : after.stage ≡ before.stage
+  pub phases : phases_of after.phases.items ≡ read_phases before
+  pub parts : after.parts.items ≡ []
+  pub lines : after.lines.items ≡ []
+
+-- the script that a text parses to, or its first line with a fault; want of memory says nothing of the text
+abbrev pub IsParsed : Parsed → Result Script ScriptFault → Type 0
+IsParsed parsed (Ok script) = parsed ≡ parses script.minor (phases_of script.phases)
+IsParsed parsed (Err (Bad line kind)) = parsed ≡ fails line (kind_of kind)
+IsParsed parsed (Err WantMemory) = Unit {0}

@@ -1,0 +1,111 @@
+//! The names that a script defines.
+ghost use Rattle.std.specs.Prelude.{◌≡◌, ◌<◌, ◌≤◌, ◌^◌, ℕ, List, [], true, length, Some, None, IfOk, IfSome};
+ghost use Rattle.gfx_script_model.specs.Scripts.{number_of, may_use};
+ghost use Rattle.gfx_script.specs.Numbered.{Defines};
+
+use std::alloc::{AllocError, Global};
+use std::collections::BTreeMap;
+use std::marker::Model;
+
+/// A name, and where it was defined.
+#[derive(Clone, Copy, Debug)]
+struct Definition<'t> {
+    name: &'t [u8],
+    phase: usize,
+    thread: u32,
+}
+
+impl<'t> Definition<'t> {
+    ghost use Rattle.gfx_script.specs.Numbered.{definition_of};
+
+    // Whether a line of this thread in this phase may use the name.
+    fn is_within(&self, phase: usize, thread: u32) -> bool
+        ensures { result ≡ may_use phase thread (definition_of self.now) }
+    {
+        self.phase < phase || self.thread == thread
+    }
+}
+
+/// The names that were defined so far, in order, each once.
+#[derive(Drop)]
+pub(crate) struct Names<'t> {
+    defined: Vec<Definition<'t>>,
+    places: BTreeMap<Vec<u8>, usize>,
+}
+
+impl<'t> Model for Names<'t> {
+    ghost use Rattle.std.specs.Prelude.{List, map};
+    ghost use Rattle.gfx_script_model.specs.Scripts.{Defined};
+    ghost use Rattle.gfx_script.specs.Numbered.{definition_of, ArePlaces};
+
+    ghost Value = { List Defined };
+
+    ghost view = { λ n. map definition_of n.defined.items };
+
+    ghost invariant = { λ n. ArePlaces (map definition_of n.defined.items) n.places };
+}
+
+impl<'t> Names<'t> {
+    /// No names.
+    pub(crate) fn new(alloc: Global) -> Self
+        ensures { result ≡ [] }
+    {
+        Names {
+            defined: Vec::new(alloc),
+            places: BTreeMap::new(alloc),
+        }
+    }
+
+    /// Each name is defined once, and the names are fewer than 2^63.
+    pub(crate) fn are_numbered(&self)
+        ensures once { (phase thread : ℕ) (name : List ℕ) (n : ℕ) → number_of (may_use phase thread) self.now name ≡ Some n → number_of (λ d. true) self.now name ≡ Some n }
+        ensures few { length self.now < 2 ^ 63 }
+    {
+        let _few = self.defined.as_slice().len();
+    }
+
+    /// The number of a name, from 1 on, where a line of this thread in this phase may use it.
+    pub(crate) fn number(&self, name: &[u8], phase: usize, thread: u32) -> Option<u64>
+        ensures found { result ≡ number_of (may_use phase thread) self.now name.now }
+        ensures only { IfSome result (λ n. number_of (λ d. true) self.now name.now ≡ Some n) }
+        ensures within { IfSome result (λ n. n ≤ length self.now) }
+    {
+        let place = *self.places.get(name)?;
+        let definition = self.defined[place];
+        if definition.is_within(phase, thread) {
+            Some(place as u64 + 1)
+        } else {
+            None
+        }
+    }
+
+    /// Defines a name in this phase by this thread, and tells its number. None where it is defined already. After want
+    /// of memory nothing is defined.
+    pub(crate) fn define(
+        &mut self,
+        alloc: Global,
+        name: &'t [u8],
+        phase: usize,
+        thread: u32,
+    ) -> Result<Option<u64>, AllocError>
+        ensures { IfOk result (λ number. Defines phase thread self.old name.now number self.new) }
+    {
+        if self.places.contains_key(name) {
+            return Ok(None);
+        }
+        let key = Vec::from_slice(alloc, name)?;
+        let place = self.defined.len();
+        self.defined.push(Definition {
+            name,
+            phase,
+            thread,
+        })?;
+        match self.places.insert(key, place) {
+            Ok(_) => Ok(Some(place as u64 + 1)),
+            Err(_) => {
+                self.defined.pop();
+                Err(AllocError)
+            }
+        }
+    }
+}
