@@ -1,10 +1,10 @@
 -- A statement added to what has been read.
-use Rattle.std.proofs.Common.{◌≡◌, ℕ, suc, ◌+◌, Bool, true, false, cond, List, [], ◌∷◌, ◌++◌, map, reverse, length, Option, Some, None, Result, Ok, Err, refl, sym, ap, subst, ◌∙◌, arith, length-append}
-use Rattle.std.proofs.lemmas.List.{length-map, map-append}
+use Rattle.std.proofs.Common.{◌≡◌, ℕ, suc, ◌+◌, true, false, List, [], ◌∷◌, ◌++◌, map, reverse, length, Option, Some, None, Result, Ok, Err, refl, sym, ap, subst, ◌∙◌, arith}
+use Rattle.std.specs.Result.{IsErrAnd}
+use Rattle.std.proofs.lemmas.List.{map-append}
+use Rattle.std.proofs.lemmas.Result.{err_from_is_err_and}
 use Rattle.gfx_model.specs.Events.{Event}
-use Rattle.gfx_script_model.specs.Ids.{defines_of, map_ids}
-use Rattle.gfx_script_model.specs.Names.{name_of}
-use Rattle.gfx_script_model.specs.Statements.{IsStatement}
+use Rattle.gfx_script_model.specs.Ids.{map_ids}
 use Rattle.gfx_script_model.specs.Statements.Form.{states}
 use Rattle.gfx_script_model.specs.Scripts as script
 use Rattle.gfx_script_model.specs.Scripts.{Outcome, reads, refuses, bad_line, structure, add_statement, add_line, in_order, phase_in_order, renumber}
@@ -13,14 +13,13 @@ use Rattle.gfx_text_grammar.specs.Parsing.{form_outcome}
 use Rattle.gfx_text_grammar.specs.StatementReading.{apart_of, read_statement}
 use Rattle.gfx_text_grammar.specs.Styles.{named}
 use Rattle.gfx_text_grammar.proofs.StatementLaws.{statement_takes}
-use Rattle.gfx_script.specs.Answers.{IsRefusal}
-use Rattle.gfx_script.specs.Kinds.{kind_of}
+use Rattle.gfx_script.specs.Answers.{IsRefusal, GivesOutcome}
 use Rattle.gfx_script.specs.Line.{line_of, part_of, phases_of}
-use Rattle.gfx_script.specs.Resolved.{number_for, made_texts, statement_by}
-use Rattle.gfx_script.specs.Staged.{is_staged}
-use Rattle.gfx_script.specs.State.{open_part, open_phase, read_phases, reading_of, stated_form}
+use Rattle.gfx_script.specs.Resolved.{number_for, made_texts, statement_by, seen_by}
+use Rattle.gfx_script.specs.Staged.{is_staged, is_in_thread, thread_of_stage}
+use Rattle.gfx_script.specs.State.{IsAt, open_phase, reading_of, stated_form}
 use Rattle.gfx_script.specs.Stated.{Stated, name_fault, names_after, NumbersLine}
-use Rattle.gfx_script.specs.Text.{renumbered}
+use Rattle.gfx_text.specs.Renumbered.{renumbered}
 use Rattle.gfx_script.specs.declared.line.Line.{Line}
 use Rattle.gfx_script.specs.declared.line_fault.LineFault.{LineFault}
 use Rattle.gfx_script.specs.declared.line_fault.LineFault.TheVariants.{Refused, WantMemory}
@@ -31,7 +30,7 @@ use Rattle.gfx_script.specs.declared.reading.Reading.{Reading}
 use Rattle.gfx_script.proofs.AddedLine.{outcome_by, with_line, added}
 use Rattle.gfx_script.proofs.Order.{phases_pushed, parts_pushed}
 use Rattle.gfx_script.proofs.Standing.{none, first_part}
-use Rattle.gfx_script.proofs.Stating.{EventsRenumbered, statement_numbered, made_names}
+use Rattle.gfx_script.proofs.Stating.{statement_numbered, made_names}
 use Rattle.gfx_script.proofs.Turned.{line_pushed}
 
 -- ---- what is read of the tokens
@@ -41,10 +40,10 @@ bind_none None g h = refl
 bind_none (Some e) g h = absurd cc
 
 -- nothing that is read is no statement
-pub nothing_stated : EventsRenumbered → (f : ℕ → ℕ) (number : ℕ) (r : script.Reading) (tokens : List (List ℕ)) → statement_by (renumbered f named) r.minor tokens ≡ None
+pub nothing_stated : (f : ℕ → ℕ) (number : ℕ) (r : script.Reading) (tokens : List (List ℕ)) → statement_by (renumbered f named) r.minor tokens ≡ None
     → form_outcome number r (stated_form r.minor tokens) ≡ refuses bad_line
-nothing_stated law f number r tokens h =
-    ap (λ o. form_outcome number r (o >>= λ e. Some (states e))) (bind_none (read_statement r.minor tokens) (map_ids f) (sym (statement_numbered law f r.minor tokens) ∙ h))
+nothing_stated f number r tokens h =
+    ap (λ o. form_outcome number r (o >>= λ e. Some (states e))) (bind_none (read_statement r.minor tokens) (map_ids f) (sym (statement_numbered f r.minor tokens) ∙ h))
 
 -- the event of what is read
 pub record IsRead (f : ℕ → ℕ) (m : ℕ) (tokens : List (List ℕ)) (seen : Event) : Type 0 where
@@ -56,8 +55,8 @@ bind_some : (o : Option Event) (f : ℕ → ℕ) (m : ℕ) (tokens : List (List 
 bind_some None f m tokens seen e h = absurd cc
 bind_some (Some event) f m tokens seen e h = record { event = event; read = e; same = let same : map_ids f event ≡ seen = cc in sym same }
 
-pub what_is_read : EventsRenumbered → (f : ℕ → ℕ) (m : ℕ) (tokens : List (List ℕ)) (seen : Event) → statement_by (renumbered f named) m tokens ≡ Some seen → IsRead f m tokens seen
-what_is_read law f m tokens seen h = bind_some (read_statement m tokens) f m tokens seen refl (sym (statement_numbered law f m tokens) ∙ h)
+pub what_is_read : (f : ℕ → ℕ) (m : ℕ) (tokens : List (List ℕ)) (seen : Event) → statement_by (renumbered f named) m tokens ≡ Some seen → IsRead f m tokens seen
+what_is_read f m tokens seen h = bind_some (read_statement m tokens) f m tokens seen refl (sym (statement_numbered f m tokens) ∙ h)
 
 -- it is a statement, with what it defines
 pub is_stated : (at : Place) (names : List script.Defined) (tokens texts : List (List ℕ)) (seen : Event) (r : IsRead (number_for at.phase at.thread names) at.minor tokens seen)
@@ -71,21 +70,27 @@ pub stated_gives : (f : ℕ → ℕ) (number : ℕ) (r : script.Reading) (tokens
     → form_outcome number r (stated_form r.minor tokens) ≡ add_statement number h.event r r.phases
 stated_gives f number r tokens seen h = ap (λ o. form_outcome number r (o >>= λ e. Some (states e))) h.read
 
+-- the thread that is read
+in_thread_is : (stage : Stage) → is_in_thread stage ≡ true → stage ≡ InThread (thread_of_stage stage)
+in_thread_is NoPhase h = absurd cc
+in_thread_is InPhase h = absurd cc
+in_thread_is (InThread n) h = refl
+
 -- ---- where it stands
 
 -- under no thread
-pub under_none : (number : ℕ) (e : Event) (r : Reading) → ((n : ℕ) → r.stage ≡ InThread n → ⊥) → is_staged r.stage r.phases.items r.parts.items r.lines.items ≡ true
+pub under_none : (number : ℕ) (e : Event) (r : Reading) → is_in_thread r.stage ≡ false → is_staged r.stage r.phases.items r.parts.items r.lines.items ≡ true
     → add_statement number e (reading_of r) (reading_of r).phases ≡ refuses structure
 under_none number e r outside staged = by r.stage outside staged
   where
-    by : (stage : Stage) → ((n : ℕ) → stage ≡ InThread n → ⊥) → is_staged stage r.phases.items r.parts.items r.lines.items ≡ true
+    by : (stage : Stage) → is_in_thread stage ≡ false → is_staged stage r.phases.items r.parts.items r.lines.items ≡ true
         → add_statement number e (reading_of r) (in_order (phases_of r.phases.items ++ open_phase stage r.parts.items r.lines.items)) ≡ refuses structure
     by NoPhase outside staged =
         ap (λ z. add_statement number e (reading_of r) (in_order (phases_of z ++ []))) (none r.phases.items (first_part _ _ (first_part _ _ staged)))
     by InPhase outside staged =
         ap (λ z. add_statement number e (reading_of r) (in_order (phases_of r.phases.items ++ (map part_of z ++ []) ∷ []))) (none r.parts.items (first_part _ _ staged))
         ∙ ap (add_statement number e (reading_of r)) (phases_pushed (phases_of r.phases.items) [])
-    by (InThread n) outside staged = absurd (outside n refl)
+    by (InThread n) outside staged = absurd cc
 
 -- ---- the line
 
@@ -125,9 +130,10 @@ module _ (at : Place) (e : Event) (r : Reading) (stage : r.stage ≡ InThread at
   line_refused result after WantMemory is h = tt
 
   -- another line is added
-  pub line_added : (line : Line) (next : Reading) → NumbersLine at r.names e (Ok line) next.names → next.minor ≡ r.minor → next.phases.items ≡ r.phases.items → next.parts.items ≡ r.parts.items
-      → next.stage ≡ r.stage → next.lines.items ≡ r.lines.items ++ line ∷ [] → add_statement at.number e (reading_of r) (reading_of r).phases ≡ reads (reading_of next)
-  line_added line next h next_minor next_phases next_parts next_stage next_lines =
+  pub line_added : (line : Line) (names : List script.Defined) (lines : List Line) → NumbersLine at r.names e (Ok line) names → lines ≡ r.lines.items ++ line ∷ []
+      → add_statement at.number e (reading_of r) (reading_of r).phases
+      ≡ reads (record { minor = r.minor; phases = in_order (phases_of r.phases.items ++ open_phase r.stage r.parts.items lines); names = names })
+  line_added line names lines h more =
       let new : script.Line = record { number = at.number; event = map_ids (renumber (names_after at r.names e)) e } in
       gives ∙ ap (λ o. outcome_by o (with_line at e (reading_of r) here beside before)) h.0
       ∙ (λ i. reads (record {
@@ -136,17 +142,63 @@ module _ (at : Place) (e : Event) (r : Reading) (stage : r.stage ≡ InThread at
         names = names_after at r.names e;
       }))
       ∙ (λ i. reads (record {
-        minor = sym next_minor i;
+        minor = r.minor;
         phases = in_order (phases_of r.phases.items ++ (map part_of r.parts.items ++ record { thread = at.thread; lines = map line_of r.lines.items ++ sym h.2 i ∷ [] } ∷ []) ∷ []);
         names = sym h.1 i;
       }))
       ∙ (λ i. reads (record {
-        minor = next.minor;
-        phases = in_order (phases_of (sym next_phases i) ++ (map part_of (sym next_parts i) ++ record { thread = at.thread; lines = (sym (ap (map line_of) next_lines ∙ map-append line_of r.lines.items (line ∷ []))) i } ∷ []) ∷ []);
-        names = next.names;
+        minor = r.minor;
+        phases = in_order (phases_of r.phases.items ++ (map part_of r.parts.items ++ record { thread = at.thread; lines = sym (ap (map line_of) more ∙ map-append line_of r.lines.items (line ∷ [])) i } ∷ []) ∷ []);
+        names = names;
       }))
       ∙ (λ i. reads (record {
-        minor = next.minor;
-        phases = in_order (phases_of next.phases.items ++ open_phase (sym (next_stage ∙ stage) i) next.parts.items next.lines.items);
-        names = next.names;
+        minor = r.minor;
+        phases = in_order (phases_of r.phases.items ++ open_phase (sym stage i) r.parts.items lines);
+        names = names;
       }))
+
+-- ---- what was read of the tokens
+
+module _ (at : Place) (r : Reading) (tokens : List (List ℕ)) (seen : Event) (place : IsAt r at) (read : seen_by at.phase at.thread r.names at.minor tokens ≡ Some seen) where
+  abbrev f : ℕ → ℕ
+  f = number_for at.phase at.thread r.names
+
+  is : IsRead f r.minor tokens seen
+  is = what_is_read f r.minor tokens seen (ap (λ m. seen_by at.phase at.thread r.names m tokens) (sym place.minor) ∙ read)
+
+  outcome : form_outcome at.number (reading_of r) (stated_form r.minor tokens) ≡ add_statement at.number is.event (reading_of r) (reading_of r).phases
+  outcome = stated_gives f at.number (reading_of r) tokens seen is
+
+  -- it stands under no thread
+  pub stands_outside : is_in_thread r.stage ≡ false → is_staged r.stage r.phases.items r.parts.items r.lines.items ≡ true
+      → form_outcome at.number (reading_of r) (stated_form r.minor tokens) ≡ refuses structure
+  stands_outside h staged = outcome ∙ under_none at.number is.event r h staged
+
+  module _ (texts : List (List ℕ)) (made : texts ≡ made_texts (apart_of tokens).0) where
+    stated : Stated at r.names texts seen is.event
+    stated = is_stated at r.names tokens texts seen (subst (λ m. IsRead f m tokens seen) (sym place.minor) is) made
+
+    -- it is a statement
+    pub is_statement : (e : Event) × Stated at r.names texts seen e
+    is_statement = (is.event, stated)
+
+    module _ (inside : is_in_thread r.stage ≡ true) where
+      stage : r.stage ≡ InThread at.thread
+      stage = in_thread_is r.stage inside ∙ ap InThread (sym place.thread)
+
+      -- its names have a fault
+      pub line_fails : (result : Result (Unit {0}) LineFault) (next : script.Reading) (names : List script.Defined) (fault : LineFault)
+          → ((e : Event) → Stated at r.names texts seen e → NumbersLine at r.names e (Err fault) names) → IsErrAnd result (λ f. f ≡ fault)
+          → GivesOutcome (form_outcome at.number (reading_of r) (stated_form r.minor tokens)) next result
+      line_fails result next names fault numbered out =
+          let p = err_from_is_err_and result out in
+          subst (λ (o : Outcome). GivesOutcome o next result) (sym outcome)
+          (subst (λ (z : Result (Unit {0}) LineFault). GivesOutcome (add_statement at.number is.event (reading_of r) (reading_of r).phases) next z) (sym (p.1 ∙ ap (λ f. Err f) p.2))
+          (line_refused at is.event r stage place.minor place.phase (Err fault) names fault refl (numbered is.event stated)))
+
+      -- or it is added
+      pub line_goes : (line : Line) (names : List script.Defined) (lines : List Line) → ((e : Event) → Stated at r.names texts seen e → NumbersLine at r.names e (Ok line) names)
+          → lines ≡ r.lines.items ++ line ∷ []
+          → form_outcome at.number (reading_of r) (stated_form r.minor tokens)
+          ≡ reads (record { minor = r.minor; phases = in_order (phases_of r.phases.items ++ open_phase r.stage r.parts.items lines); names = names })
+      line_goes line names lines numbered more = outcome ∙ line_added at is.event r stage place.minor place.phase line names lines (numbered is.event stated) more

@@ -1,10 +1,10 @@
 -- A statement added to what has been read.
-use Rattle.std.proofs.Common.{◌≡◌, ℕ, ◌+◌, Bool, true, false, not, cond, ◌||◌, List, [], ◌∷◌, ◌++◌, map, reverse, length, Option, Some, None, refl, sym, ap, ◌∙◌}
-use Rattle.std.specs.List.{list_all, list_any}
+use Rattle.std.proofs.Common.{◌≡◌, ℕ, ◌+◌, Bool, true, false, not, cond, List, ◌∷◌, map, length, Option, Some, None, refl, sym, ap, ◌∙◌}
+use Rattle.std.specs.List.{list_all}
 use Rattle.gfx_model.specs.Events.{Event}
 use Rattle.gfx_script_model.specs.Ids.{uses_of, defines_of, map_ids}
 use Rattle.gfx_script_model.specs.Names.{name_of}
-use Rattle.gfx_script_model.specs.Scripts.{Kind, Defined, Reading, Outcome, reads, refuses, name_unknown, name_taken, Line, Part, may_use, is_known, without_0, define, renumber, add_line}
+use Rattle.gfx_script_model.specs.Scripts.{Kind, Reading, Outcome, reads, refuses, name_unknown, name_taken, Part, may_use, is_known, without_0, renumber, add_line}
 use Rattle.gfx_script.specs.Numbered.{clashes}
 use Rattle.gfx_script.specs.Stated.{name_fault, names_after}
 use Rattle.gfx_script.specs.declared.numbering.Place.{Place}

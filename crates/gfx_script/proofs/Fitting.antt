@@ -1,5 +1,5 @@
 -- An event whose fields have a text in a script has a spelling with numbers of eight bytes as its ids.
-use Rattle.std.proofs.Common.{◌≡◌, ℕ, ◌<◌, ◌≤◌, ◌^◌, Bool, true, false, List, [], ◌∷◌, ◌++◌, map, flat_map, length, refl, sym, ap, subst, ◌∙◌, arith}
+use Rattle.std.proofs.Common.{◌≡◌, ℕ, suc, get_or, ◌<◌, ◌^◌, true, false, List, [], ◌∷◌, ◌++◌, map, flat_map, length, refl, sym, ap, subst, ◌∙◌, arith}
 use Rattle.std.specs.List.{AllByRecursion}
 use Rattle.std.proofs.lemmas.List.{length-map}
 use Rattle.std.proofs.lemmas.Bool.{lt-ltb}
@@ -9,17 +9,18 @@ use Rattle.gfx_types.specs.declared.lists.Submit.{Submit}
 use Rattle.gfx_model.specs.Events.{Event}
 use Rattle.gfx_model.specs.Events.Event.{QueuePresentKHR}
 use Rattle.gfx_model.specs.Spelling.{HasSpelling, IsOfVersion}
-use Rattle.gfx_model.specs.Fields.{Atom, Value, Named, Records, named_fields, atoms_of, barrier_atoms, present_atoms}
+use Rattle.gfx_model.specs.Fields.{Atom, Value, Named, named_fields, atoms_of, barrier_atoms, present_atoms}
 use Rattle.gfx_model.specs.Fields.Atom.{an_id, a_wide, a_short}
 use Rattle.gfx_model.specs.Fields.Records.{barriers, buffer_regions, image_regions, mixed_regions, presents}
 use Rattle.gfx_model.specs.Fields.Value.{names, makes, maybe, wide, short, raw, names_each, makes_each, shorts, records, submitted}
-use Rattle.gfx_script_model.specs.FieldText.{IdStyle, IdFits, AtomFits, ListFits, SubmitFits, ValueFits, FieldsFit}
+use Rattle.gfx_script_model.specs.FieldText.{IdStyle, IdFits, AtomFits, SubmitFits, ValueFits, FieldsFit}
 use Rattle.gfx_script_model.specs.Ids.{atom_ids, named_by, made_by, barrier_ids, present_ids, submit_ids, uses_of, defines_of, map_ids}
 use Rattle.gfx_script_model.specs.Names.{named_ids}
 use Rattle.gfx_text_grammar.specs.Styles.{numbered}
 use Rattle.gfx_text_grammar.proofs.Lists.{all_parts}
 use Rattle.gfx_text_grammar.proofs.SpellingLaws.{text-spelling}
-use Rattle.gfx_script.proofs.Renaming.{records_ids, value_ids, field_ids, fields_renamed}
+use Rattle.gfx_script.specs.Puts.{AreWide}
+use Rattle.gfx_script.proofs.Renaming.{value_ids, field_ids, fields_renamed}
 
 -- every id fits
 abbrev pub any_ids : IdStyle
@@ -160,9 +161,10 @@ alike_fit m a b same h =
 
 -- ---- numbers of eight bytes
 
--- the ids are numbers of eight bytes
-abbrev pub AreWide : List ℕ → Type 0
-AreWide ids = AllByRecursion (λ n. n < 2 ^ 64) ids
+-- a list of numbers of eight bytes
+pub all_wide : (xs : List ℕ) → ((i : ℕ) → get_or xs i 0 < 2 ^ 64) → AreWide xs
+all_wide [] h = tt
+all_wide (x ∷ xs) h = (h 0, all_wide xs (λ i. h (suc i)))
 
 wide_ids : (xs : List ℕ) → AreWide xs → AllByRecursion (IdFits numbered.ids) xs
 wide_ids xs h = weaker (λ n k. lt-ltb _ _ k) xs h

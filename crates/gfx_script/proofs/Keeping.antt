@@ -1,17 +1,18 @@
 -- What is kept is read again.
-use Rattle.std.proofs.Common.{◌≡◌, ℕ, ◌≤◌, nat_eq, Bool, true, false, cond, List, [], ◌∷◌, length, Option, Some, None, is_some, refl, sym, ap, ◌∙◌, arith}
+use Rattle.std.proofs.Common.{◌≡◌, ℕ, ◌≤◌, nat_eq, true, false, List, [], ◌∷◌, length, Option, Some, None, is_some, refl, sym, ap, ◌∙◌, arith}
 use Rattle.std.specs.Option.{unwrap_or}
 use Rattle.std.proofs.lemmas.Bool.{cond-false}
 use Rattle.std.proofs.lemmas.Bool.Decides.{nat_tests}
 use Rattle.std.proofs.lemmas.List.{length-map}
-use Rattle.gfx_types.specs.declared.meta.Meta.{Meta}
-use Rattle.gfx_types.specs.declared.meta.Meta.TheVariants as meta
+use Rattle.gfx_types.specs.declared.effect.Meta.{Meta}
+use Rattle.gfx_types.specs.declared.effect.Meta.TheVariants as meta
 use Rattle.gfx_model.specs.Events.{Event, event_of_meta}
 use Rattle.gfx_model.specs.Events.Event.{FillMemory, BeginSection}
 use Rattle.gfx_model.specs.Spelling.{HasSpelling, spelling, fields_of, id_of, type_of}
-use Rattle.gfx_grammar.specs.Rows.{read_call, read_meta, read_event}
+use Rattle.gfx_grammar.specs.Reads.{AreBytes}
+use Rattle.gfx_grammar.specs.Rows.{read_meta, read_event}
 use Rattle.gfx_grammar.proofs.EventLaws.{spelled_is_read, read_is_spelled}
-use Rattle.gfx_script_model.specs.Ids.{uses_of, defines_of, map_ids}
+use Rattle.gfx_script_model.specs.Ids.{defines_of, map_ids}
 use Rattle.gfx_script_model.specs.Statements.{may_be_written}
 use Rattle.gfx_script.specs.Kept.{kept_event, keeps_event, event_in}
 use Rattle.gfx_script.specs.Puts.{HasIds}
@@ -84,7 +85,7 @@ read_written (meta.SetSemaphoreState semaphore signalled) n k = absurd cc
 pub fields_written : (fields : List ℕ) (write : Meta) → AreBytes fields → read_meta 1 2 fields ≡ Some (event_of_meta write) → may_be_written (event_of_meta write) ≡ true
 fields_written fields write bytes h =
     let s = read_is_spelled 1 3 2 fields (event_of_meta write) bytes h in
-    read_written write s.1.0 s.1.1
+    read_written write s.1 s.2
 
 -- a write makes nothing
 pub nothing_made : (before after : Event) (named made : List ℕ) → HasIds before named [] after → length made ≡ length (defines_of 2 before) → HasIds before named made after

@@ -1,6 +1,5 @@
 -- Lists of records by their marks.
 use Rattle.std.proofs.Common.{◌≡◌, ℕ, zero, ◌≤◌, List, [], ◌∷◌, ◌++◌, map, flat_map, length, refl, sym, ap, ◌∙◌, arith, append_assoc, length-append, Bor}
-use Rattle.std.proofs.lemmas.List.{length-map}
 use Rattle.std.proofs.lemmas.List.Folds.{flat_map-map}
 use Rattle.gfx_types.specs.declared.lists.Barrier.{Barrier}
 use Rattle.gfx_types.specs.declared.lists.BufferRegion.{BufferRegion}

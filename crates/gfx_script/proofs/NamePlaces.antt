@@ -4,7 +4,7 @@ use Rattle.std.specs.List.{list_any, position_from}
 use Rattle.std.proofs.Common.{get_or}
 use Rattle.std.specs.Str.{bytes_eq}
 use Rattle.std.specs.BTreeMap.{BTreeMap, is_at}
-use Rattle.std.specs.Map.{lookup, update}
+use Rattle.std.specs.Map.{lookup}
 use Rattle.std.specs.Cmp.Lexicographic.{slice_cmp}
 use Rattle.std.specs.Ordering.{nat_cmp}
 use Rattle.std.proofs.lemmas.List.{length-map, map-append, take_more}
@@ -14,13 +14,12 @@ use Rattle.std.specs.Ordering.{is_eq, eq_by_cmp}
 use Rattle.std.specs.declared.cmp.Ordering.{Ordering}
 use Rattle.std.specs.Cmp.{eq_by_cmp_equiv}
 use Rattle.std.specs.Cmp.Lexicographic.{bytes_decides, nat_list_cmp_total, nat_list_eq_equiv}
-use Rattle.std.proofs.lemmas.Bool.{cases_Bool, cond-true, cond-false}
 use Rattle.std.proofs.lemmas.Map.Text.{is_eq-slice_cmp}
 use Rattle.std.proofs.lemmas.Bool.Decides.{nat_tests}
 use Rattle.std.specs.Prelude.{Vec}
 use Rattle.std.proofs.Common.{Global, Bor}
 use Rattle.gfx_model.specs.Checks.{same_list}
-use Rattle.gfx_script_model.specs.Scripts.{Defined, number_of, may_use, is_known, repeats, define}
+use Rattle.gfx_script_model.specs.Scripts.{Defined, number_of, may_use, repeats, define}
 use Rattle.gfx_text_grammar.proofs.Lists.{same_list-true}
 use Rattle.gfx_script.specs.declared.names.Definition.{Definition}
 use Rattle.gfx_script.specs.Numbered.{definition_of, place_of, nothing_defined, allowed_at, ArePlaces, is_taken, clashes}

@@ -1,11 +1,10 @@
 -- The line of a statement, by the numbers of its names.
-use Rattle.std.proofs.Common.{◌≡◌, ℕ, ◌<◌, ◌^◌, nat_eq, ◌&&◌, ◌||◌, not, Bool, true, false, cond, List, [], ◌∷◌, ◌++◌, map, length, Option, Some, None, Result, Ok, Err, refl, sym, ap, subst, ◌∙◌, arith, IsTrue}
+use Rattle.std.proofs.Common.{◌≡◌, ℕ, ◌<◌, ◌^◌, nat_eq, not, Bool, true, false, cond, List, [], ◌∷◌, ◌++◌, map, length, Some, None, Result, Ok, Err, refl, sym, ap, subst, ◌∙◌, arith}
 use Rattle.std.specs.List.{AllByRecursion, list_all, list_any}
 use Rattle.std.specs.Option.{unwrap_or}
 use Rattle.std.proofs.lemmas.List.{length-map}
 use Rattle.std.specs.Result.{IsErrAnd}
 use Rattle.std.proofs.lemmas.Result.{err_from_is_err_and}
-use Rattle.std.proofs.lemmas.Bool.{cond-false}
 use Rattle.std.proofs.lemmas.Bool.Decides.{nat_tests}
 use Rattle.gfx_model.specs.Events.{Event}
 use Rattle.gfx_model.specs.Events.Event.{FillMemory}
@@ -16,11 +15,10 @@ use Rattle.gfx_script_model.specs.Ids.{uses_of, defines_of, map_ids}
 use Rattle.gfx_script_model.specs.Names.{is_code, name_of, named_ids}
 use Rattle.gfx_script_model.specs.Scripts.{Defined, number_of, may_use, is_known, without_0, renumber, define, name_unknown, name_taken}
 use Rattle.gfx_script_model.specs.Statements.{may_be_written}
-use Rattle.gfx_script.specs.Puts.{HasIds}
-use Rattle.gfx_script.specs.Resolved.{unknown, is_unknown, number_for}
+use Rattle.gfx_script.specs.Puts.{HasIds, AreWide}
+use Rattle.gfx_script.specs.Resolved.{is_unknown, number_for}
 use Rattle.gfx_script.specs.Numbered.{clashes}
 use Rattle.gfx_script.specs.Answers.{DefinesAll}
-use Rattle.gfx_script.specs.Kinds.{kind_of}
 use Rattle.gfx_script.specs.Line.{line_of, event_of_line}
 use Rattle.gfx_script.specs.Stated.{Stated, NumbersLine, name_fault, names_after}
 use Rattle.gfx_script.specs.declared.line.Line.{Line}
@@ -29,7 +27,7 @@ use Rattle.gfx_script.specs.declared.line_fault.LineFault.TheVariants.{Refused, 
 use Rattle.gfx_script.proofs.NamePlaces.{number-stays, number-within}
 use Rattle.gfx_script.specs.declared.numbering.Place.{Place}
 use Rattle.gfx_script.proofs.Renaming.{uses_renamed, defines_renamed, uses_in_versions, defines_in_versions, blank_renamed, renamed}
-use Rattle.gfx_script.proofs.Fitting.{AreWide, alike_version, alike_spelled}
+use Rattle.gfx_script.proofs.Fitting.{alike_version, alike_spelled}
 use Rattle.gfx_script.proofs.Stating.{FindsAll, all_known, all_same, all_made_fit}
 
 -- ---- what may be written
@@ -118,7 +116,7 @@ module _ (at : Place) (names : List Defined) (texts : List (List ℕ)) (seen e :
 
   -- it has a spelling
   pub made_spelled : (named made : List ℕ) (out : Event) → HasIds seen named made out → AreWide named → AreWide made → HasSpelling at.minor out
-  numbered_spelled named made out h wide_named wide_made =
+  made_spelled named made out h wide_named wide_made =
       let alike : map_ids (λ _. 0) out ≡ map_ids (λ _. 0) e = h.others ∙ seen_alike in
       let version = alike_version at.minor e out alike s.version in
       alike_spelled at.minor e out s.fits s.version alike
@@ -150,9 +148,9 @@ module _ (at : Place) (names : List Defined) (texts : List (List ℕ)) (seen e :
 
   -- its names are refused
   pub refused_names : Numbers → length names < 2 ^ 63 → list_any is_unknown (uses_of 2 seen) ≡ false
-      → (r : Result Line LineFault) {fault : LineFault} {after : List Defined} → DefinesAll at.phase at.thread names texts (Err fault) after → IsErrAnd r (λ f. f ≡ fault)
+      → (r : Result Line LineFault) (fault : LineFault) (after : List Defined) → DefinesAll at.phase at.thread names texts (Err fault) after → IsErrAnd r (λ f. f ≡ fault)
       → NumbersLine at names e r after
-  refused_names once few known r {fault} {after} h out =
+  refused_names once few known r fault after h out =
       let p = err_from_is_err_and r out in
       subst (λ (z : Result Line LineFault). NumbersLine at names e z after) (sym (p.1 ∙ ap (λ f. Err f) p.2)) (by fault h)
     where
@@ -172,8 +170,8 @@ module _ (at : Place) (names : List Defined) (texts : List (List ℕ)) (seen e :
       → (name_fault at names e ≡ None) × (after ≡ names_after at names e) × (line_of line ≡ record { number = at.number; event = map_ids (renumber (names_after at names e)) e })
   numbered_line once few known used same numbers after d out h line number event =
       let more = map (λ (t : List ℕ). record { name = t; phase = at.phase; thread = at.thread }) texts in
-      let found : FindsAll at.phase at.thread names after = subst (FindsAll at.phase at.thread names) (sym d.1.0) (finds at.phase at.thread names more once few) in
-      let names_now : after ≡ names_after at names e = d.1.0 ∙ after_is in
+      let found : FindsAll at.phase at.thread names after = subst (FindsAll at.phase at.thread names) (sym d.1) (finds at.phase at.thread names more once few) in
+      let names_now : after ≡ names_after at names e = d.1 ∙ after_is in
       let whole : HasIds seen (uses_of 2 seen) numbers out = subst (λ (z : List ℕ). HasIds seen z numbers out) same h in
-      let is = numbered_is after numbers out found known d.1.1 whole ∙ ap (λ (z : List Defined). map_ids (renumber z) e) names_now in
-      (no_fault after found known d.0, (names_now, λ i. record { number = number i; event = (event ∙ is) i }))
+      let is = numbered_is after numbers out found known d.2 whole ∙ ap (λ (z : List Defined). map_ids (renumber z) e) names_now in
+      (no_fault after found known d.0, names_now, (λ i. record { number = number i; event = (event ∙ is) i }))

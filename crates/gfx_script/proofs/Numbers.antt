@@ -1,5 +1,5 @@
 -- The numbers of calls.
-use Rattle.std.proofs.Common.{◌≤◌, ◌≡◌, ℕ, arith, lit≤}
+use Rattle.std.proofs.Common.{◌≤◌, arith}
 use Rattle.gfx_types.specs.declared.call.Call.{Call}
 use Rattle.gfx_model.specs.Events.{event_of_call}
 use Rattle.gfx_model.specs.Spelling.{id_of}

@@ -1,7 +1,7 @@
 -- A text parsed line by line.
-use Rattle.std.proofs.Common.{◌≡◌, ℕ, ◌+◌, ◌-◌, ◌≤◌, min, List, [], ◌∷◌, length, refl, sym, ap, ◌∙◌, arith, Err}
+use Rattle.std.proofs.Common.{◌≡◌, ℕ, ◌+◌, ◌-◌, ◌≤◌, min, List, [], length, sym, ap, ◌∙◌, arith, Err}
 use Rattle.gfx_script_model.specs.Statements.{lines_of}
-use Rattle.gfx_script_model.specs.Scripts.{Kind, Reading, reads, refuses, Parsed, parses, fails, in_order, through_line, at_first}
+use Rattle.gfx_script_model.specs.Scripts.{Kind, Reading, reads, refuses, parses, fails, in_order, at_first}
 use Rattle.gfx_text_grammar.specs.Parsing.{line_outcome, after_outcome, parse_from, parse_of}
 use Rattle.gfx_script.specs.Answers.{IsRefusal, fault_at}
 use Rattle.gfx_script.specs.Cuts.{IsFirstLine}

@@ -1,16 +1,13 @@
 -- Events with other ids: their fields, and the ids that they name and make.
-use Rattle.std.proofs.Common.{◌≡◌, ℕ, ◌<◌, ◌^◌, nat_eq, Bool, true, false, cond, List, [], ◌∷◌, ◌++◌, map, flat_map, length, refl, sym, ap, ◌∙◌, arith, append-nil}
+use Rattle.std.proofs.Common.{◌≡◌, ℕ, nat_eq, Bool, true, false, cond, List, [], ◌∷◌, ◌++◌, map, flat_map, length, refl, sym, ap, ◌∙◌, arith}
 use Rattle.std.proofs.lemmas.List.{map-append}
 use Rattle.gfx_types.specs.declared.lists.Barrier.{Barrier}
-use Rattle.gfx_types.specs.declared.lists.BufferRegion.{BufferRegion}
-use Rattle.gfx_types.specs.declared.lists.ImageRegion.{ImageRegion}
-use Rattle.gfx_types.specs.declared.lists.MixedRegion.{MixedRegion}
 use Rattle.gfx_types.specs.declared.lists.Present.{Present}
 use Rattle.gfx_types.specs.declared.lists.Submit.{Submit}
 use Rattle.gfx_model.specs.Events.{Event}
 use Rattle.gfx_model.specs.Events.Event.{QueuePresentKHR}
 use Rattle.gfx_model.specs.Spelling.{IsOfVersion}
-use Rattle.gfx_model.specs.Fields.{Atom, Value, Named, Records, field, one_present, named_presents, named_fields, atoms_of, barrier_atoms, buffer_region_atoms, image_region_atoms, mixed_region_atoms, present_atoms}
+use Rattle.gfx_model.specs.Fields.{Atom, Value, Named, Records, field, one_present, named_presents, named_fields, barrier_atoms, buffer_region_atoms, image_region_atoms, mixed_region_atoms, present_atoms}
 use Rattle.gfx_model.specs.Fields.Records.{barriers, buffer_regions, image_regions, mixed_regions, presents}
 use Rattle.gfx_model.specs.Fields.Value.{names, makes, maybe, wide, short, raw, names_each, makes_each, shorts, records, submitted}
 use Rattle.gfx_script_model.specs.Ids.{atom_ids, named_by, made_by, barrier_ids, present_ids, submit_ids, uses_of, defines_of, map_ids}

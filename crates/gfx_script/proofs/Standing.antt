@@ -1,12 +1,12 @@
 -- Phases and threads that begin.
-use Rattle.std.proofs.Common.{◌≡◌, ℕ, ◌==◌, ◌||◌, ◌&&◌, Bool, true, false, cond, List, [], ◌∷◌, ◌++◌, map, refl, sym, ap, ◌∙◌, append-nil}
+use Rattle.std.proofs.Common.{◌≡◌, ℕ, ◌==◌, ◌||◌, ◌&&◌, Bool, true, false, cond, List, [], ◌∷◌, ◌++◌, map, refl, sym, ap, ◌∙◌}
 use Rattle.std.specs.List.{list_any}
 use Rattle.std.proofs.lemmas.List.Folds.{list_any-append}
 use Rattle.gfx_script_model.specs.Statements.{is_empty}
 use Rattle.gfx_script_model.specs.Scripts as script
 use Rattle.gfx_script_model.specs.Scripts.{Outcome, reads, refuses, structure, in_order, begin_thread}
 use Rattle.gfx_script.specs.Line.{line_of, part_of, phases_of}
-use Rattle.gfx_script.specs.State.{open_part, open_phase, thread_stood, read_phases, reading_of}
+use Rattle.gfx_script.specs.State.{open_part, open_phase, thread_stood, reading_of}
 use Rattle.gfx_script.specs.Staged.{is_staged, is_outside}
 use Rattle.gfx_script.specs.declared.line.Line.{Line}
 use Rattle.gfx_script.specs.declared.script.Part.{Part}
@@ -66,20 +66,15 @@ module _ (n : ℕ) (r : Reading) (inside : is_outside r.stage ≡ false) where
   thread_again h = now ∙ ap (λ b. cond b (refuses structure) (reads (record (reading_of r) { phases = in_order (phases_of r.phases.items ++ (current r.stage r.parts.items r.lines.items ++ record { thread = n; lines = [] } ∷ []) ∷ []) }))) h
 
   -- and begins otherwise
-  pub thread_begins : (next : Reading) → thread_stood n r ≡ false → next.minor ≡ r.minor → next.names ≡ r.names → next.phases.items ≡ r.phases.items
-      → map part_of next.parts.items ≡ current r.stage r.parts.items r.lines.items → next.lines.items ≡ [] → next.stage ≡ InThread n
-      → begin_thread n (reading_of r) (reading_of r).phases ≡ reads (reading_of next)
-  thread_begins next h minor names phases parts lines stage =
+  pub thread_begins : (phases : List Phase) (parts : List Part) (lines : List Line) → thread_stood n r ≡ false → phases ≡ r.phases.items
+      → map part_of parts ≡ current r.stage r.parts.items r.lines.items → lines ≡ []
+      → begin_thread n (reading_of r) (reading_of r).phases ≡ reads (record { minor = r.minor; phases = in_order (phases_of phases ++ open_phase (InThread n) parts lines); names = r.names })
+  thread_begins phases parts lines h same ended none =
       now ∙ ap (λ b. cond b (refuses structure) (reads (record (reading_of r) { phases = in_order (phases_of r.phases.items ++ (current r.stage r.parts.items r.lines.items ++ record { thread = n; lines = [] } ∷ []) ∷ []) }))) h
       ∙ (λ i. reads (record {
-        minor = sym minor i;
-        phases = in_order (phases_of (sym phases i) ++ (sym parts i ++ record { thread = n; lines = map line_of (sym lines i) } ∷ []) ∷ []);
-        names = sym names i;
-      }))
-      ∙ (λ i. reads (record {
-        minor = next.minor;
-        phases = in_order (phases_of next.phases.items ++ open_phase (sym stage i) next.parts.items next.lines.items);
-        names = next.names;
+        minor = r.minor;
+        phases = in_order (phases_of (sym same i) ++ (sym ended i ++ record { thread = n; lines = map line_of (sym none i) } ∷ []) ∷ []);
+        names = r.names;
       }))
 
 -- the same of the parts themselves
@@ -88,9 +83,9 @@ any_part n [] = refl
 any_part n (p ∷ ps) = ap (λ b. (p.thread == n) || b) (any_part n ps)
 
 -- the thread stood in the phase where it ended, or where it is read
-pub stood_is : (n : ℕ) (r : Reading) (ended open : Bool) → ended ≡ list_any (λ (p : Part). p.thread == n) r.parts.items → open ≡ list_any (λ p. p.thread == n) (open_part r.stage r.lines.items)
-    → (ended || open) ≡ thread_stood n r
-stood_is n r ended open e o =
+pub stood_is : (n : ℕ) (r : Reading) (ended here : Bool) → ended ≡ list_any (λ (p : Part). p.thread == n) r.parts.items → here ≡ list_any (λ p. p.thread == n) (open_part r.stage r.lines.items)
+    → (ended || here) ≡ thread_stood n r
+stood_is n r ended here e o =
     (λ i. e i || o i) ∙ ap (λ b. b || list_any (λ p. p.thread == n) (open_part r.stage r.lines.items)) (sym (any_part n r.parts.items))
     ∙ sym (list_any-append (λ p. p.thread == n) (map part_of r.parts.items) (open_part r.stage r.lines.items))
 

@@ -1,5 +1,5 @@
 -- What a statement defines and uses, by the texts of its tokens and the numbers of its names.
-use Rattle.std.proofs.Common.{◌≡◌, ℕ, ◌+◌, ◌-◌, ◌<◌, ◌≤◌, ◌^◌, nat_eq, ◌&&◌, ◌||◌, not, Bool, true, false, cond, List, [], ◌∷◌, ◌++◌, map, filter, flat_map, length, Option, Some, None, is_some, refl, sym, ap, subst, ◌∙◌, arith, codes, IsTrue, ◌⊎◌, inl, inr}
+use Rattle.std.proofs.Common.{◌≡◌, ℕ, ◌<◌, nat_eq, ◌&&◌, ◌||◌, not, Bool, true, false, cond, List, [], ◌∷◌, ◌++◌, map, filter, flat_map, length, Option, Some, None, is_some, refl, sym, ap, ◌∙◌, arith, codes, ◌⊎◌, inl, inr}
 use Rattle.std.specs.Option.{unwrap_or}
 use Rattle.std.specs.List.{AllByRecursion, list_all, list_any, join_with_byte, slice_split, onto_first}
 use Rattle.std.proofs.lemmas.Bool.{cond-true, cond-false, and_parts}
@@ -13,20 +13,18 @@ use Rattle.gfx_types.specs.declared.lists.Submit.{Submit}
 use Rattle.gfx_script_model.specs.FieldText.{field_text, value_text, IdFits, AtomFits, SubmitFits, ValueFits, FieldsFit}
 use Rattle.gfx_script_model.specs.Ids.{atom_ids, named_by, made_by, uses_of, defines_of, map_ids}
 use Rattle.gfx_script_model.specs.Names.{is_letter_or_digit, is_name, is_code, name_of, named_ids}
-use Rattle.gfx_script_model.specs.Scripts.{Defined, number_of, may_use, is_known, without_0, renumber, define}
+use Rattle.gfx_script_model.specs.Scripts.{Defined, number_of, may_use, is_known, without_0, renumber}
 use Rattle.gfx_script_model.specs.Statements.{defining, statement_word, statement_tokens, IsStatement}
 use Rattle.gfx_grammar.specs.Reading.{◌>>=◌}
 use Rattle.gfx_text_grammar.specs.StatementReading.{apart_of, read_worded, read_behind, read_statement}
 use Rattle.gfx_text_grammar.specs.Styles.{named}
-use Rattle.gfx_text_grammar.proofs.Lists.{same_list-true, all_parts}
 use Rattle.gfx_text_grammar.proofs.StyleLaws.{name_letters, name_long, fields_named}
-use Rattle.gfx_text_grammar.proofs.StatementLaws.{statement_takes}
 use Rattle.gfx_model.proofs.Lists.{all_append}
-use Rattle.gfx_text_grammar.specs.Reading.{Style}
 use Rattle.gfx_text_grammar.specs.FieldReading.{Left, without_front}
 use Rattle.gfx_text_grammar.specs.Rows.{read_event}
 use Rattle.gfx_script.specs.Resolved.{unknown, is_unknown, number_for, worded_by, behind_by, statement_by, made_texts}
-use Rattle.gfx_script.specs.Text.{renumbered}
+use Rattle.gfx_text.specs.Renumbered.{renumbered}
+use Rattle.gfx_text.proofs.Renumbering.{events_renumbered}
 
 -- ---- the ids of a statement are codes of names
 
@@ -239,28 +237,23 @@ made_names m tokens e h =
 
 -- ---- numbers in place of codes
 
--- reading with other ids gives the event with other ids
-abbrev pub EventsRenumbered : Type 0
-EventsRenumbered = (f : ℕ → ℕ) (s : Style) (m kind : ℕ) (name : List ℕ) (left : Left)
-    → read_event (renumbered f s) m kind name left ≡ (read_event s m kind name left >>= λ e. Some (map_ids f e))
-
-worded_numbered : EventsRenumbered → (f : ℕ → ℕ) (m : ℕ) (word : List ℕ) (left : Left)
+worded_numbered : (f : ℕ → ℕ) (m : ℕ) (word : List ℕ) (left : Left)
     → worded_by (renumbered f named) m word left ≡ (read_worded m word left >>= λ e. Some (map_ids f e))
-worded_numbered law f m word left = by (same_list word (codes "write")) (without_front (codes "vk") word)
+worded_numbered f m word left = by (same_list word (codes "write")) (without_front (codes "vk") word)
   where
     by : (b : Bool) (o : Option (List ℕ))
         → cond b (read_event (renumbered f named) m 3 (codes "FillMemory") left) (o >>= λ call. read_event (renumbered f named) m 4 call left)
         ≡ (cond b (read_event named m 3 (codes "FillMemory") left) (o >>= λ call. read_event named m 4 call left) >>= λ e. Some (map_ids f e))
-    by true o = law f named m 3 (codes "FillMemory") left
+    by true o = events_renumbered f named m 3 (codes "FillMemory") left
     by false None = refl
-    by false (Some call) = law f named m 4 call left
+    by false (Some call) = events_renumbered f named m 4 call left
 
 -- a statement that is read with numbers is the statement with numbers in place of its codes
-pub statement_numbered : EventsRenumbered → (f : ℕ → ℕ) (m : ℕ) (tokens : List (List ℕ))
+pub statement_numbered : (f : ℕ → ℕ) (m : ℕ) (tokens : List (List ℕ))
     → statement_by (renumbered f named) m tokens ≡ (read_statement m tokens >>= λ e. Some (map_ids f e))
 unfolding statement_by read_statement
-statement_numbered law f m tokens = by (apart_of tokens).0 (apart_of tokens).1
+statement_numbered f m tokens = by (apart_of tokens).0 (apart_of tokens).1
   where
     by : (made ts : List (List ℕ)) → behind_by (renumbered f named) m made ts ≡ (read_behind m made ts >>= λ e. Some (map_ids f e))
     by made [] = refl
-    by made (word ∷ ts) = worded_numbered law f m word (made, ts)
+    by made (word ∷ ts) = worded_numbered f m word (made, ts)

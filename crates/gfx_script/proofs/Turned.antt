@@ -1,12 +1,12 @@
 -- What has been read, as lines are added to it.
-use Rattle.std.proofs.Common.{◌≡◌, ℕ, ◌+◌, ◌==◌, ◌||◌, Bool, true, false, cond, List, [], ◌∷◌, ◌++◌, map, length, refl, sym, ap, ◌∙◌, arith, append_assoc, append-nil, length-append}
+use Rattle.std.proofs.Common.{◌≡◌, ℕ, ◌==◌, ◌||◌, Bool, true, false, List, [], ◌∷◌, ◌++◌, map, length, refl, ap, ◌∙◌}
 use Rattle.std.specs.Prelude.{reverse}
 use Rattle.std.specs.List.{list_any}
-use Rattle.std.proofs.lemmas.List.{map-append, length-map, length-reverse, reverse-append}
+use Rattle.std.proofs.lemmas.List.{length-map, length-reverse, reverse-append}
 use Rattle.std.proofs.lemmas.List.Folds.{list_any-append}
 use Rattle.gfx_script_model.specs.Scripts as script
 use Rattle.gfx_script_model.specs.Scripts.{part_in_order, phase_in_order, in_order, has_thread}
-use Rattle.gfx_script.proofs.Order.{phases_pushed, parts_pushed, lines_pushed, order_back}
+use Rattle.gfx_script.proofs.Order.{phases_pushed, parts_pushed, lines_pushed}
 
 -- as many phases in either order
 pub as_many : (phases : List (List script.Part)) → length (in_order phases) ≡ length phases

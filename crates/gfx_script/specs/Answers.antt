@@ -1,6 +1,6 @@
 -- What reading answers: a line, the names of a line, a script.
-use Rattle.std.specs.Prelude.{◌≡◌, ℕ, Bool, true, false, List, map, Option, Some, None, Result, Ok, Err, codes}
-use Rattle.gfx_script_model.specs.Scripts.{Kind, Outcome, reads, refuses, Reading, Defined, number_of, define, name_taken, Parsed, parses, fails}
+use Rattle.std.specs.Prelude.{◌≡◌, ℕ, true, false, List, map, Some, Result, Ok, Err}
+use Rattle.gfx_script_model.specs.Scripts.{Outcome, reads, refuses, Reading, Defined, number_of, define, name_taken}
 use Rattle.gfx_script.specs.Kinds.{kind_of}
 use Rattle.gfx_script.specs.Numbered.{clashes}
 use Rattle.gfx_script.specs.declared.fault.ScriptFault.{ScriptFault}

@@ -1,5 +1,5 @@
 -- Texts that are cut: the first line, the first token.
-use Rattle.std.specs.Prelude.{◌≡◌, ℕ, ◌+◌, ◌<◌, min, List, [], ◌∷◌, length}
+use Rattle.std.specs.Prelude.{◌≡◌, ℕ, ◌+◌, ◌<◌, min, List, ◌∷◌, length}
 use Rattle.gfx_script_model.specs.Statements.{lines_of, tokens_of}
 
 -- the first line of a text and what stands behind it; the text ends at most one byte behind the line, or goes on there

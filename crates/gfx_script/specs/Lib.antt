@@ -6,7 +6,6 @@ pub mod Numbered
 pub mod Puts
 pub mod Kept
 pub mod Line
-pub mod Text
 pub mod Resolved
 pub mod Answers
 pub mod Staged

@@ -1,5 +1,5 @@
 -- The lines of a script as the definitions have them.
-use Rattle.std.specs.Prelude.{ℕ, List, map}
+use Rattle.std.specs.Prelude.{List, map}
 use Rattle.gfx_model.specs.Events.{Event}
 use Rattle.gfx_script_model.specs.Scripts as script
 use Rattle.gfx_script.specs.Kept.{event_in}

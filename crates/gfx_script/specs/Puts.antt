@@ -1,5 +1,6 @@
 -- Ids put into values in order: those that a value names, and those that it makes.
-use Rattle.std.specs.Prelude.{◌≡◌, ℕ, nat_le, Bool, ◌&&◌, List, ◌++◌, length}
+use Rattle.std.specs.Prelude.{◌≡◌, ℕ, ◌<◌, ◌^◌, nat_le, Bool, ◌&&◌, List, ◌++◌, length}
+use Rattle.std.specs.List.{AllByRecursion}
 use Rattle.gfx_model.specs.Events.{Event}
 use Rattle.gfx_script_model.specs.Ids.{uses_of, defines_of, map_ids}
 use Rattle.gfx_script.specs.declared.supply.Supply.{Supply}
@@ -29,3 +30,7 @@ pub record HasIds (before : Event) (named made : List ℕ) (after : Event) : Typ
 -- a number from one to another
 abbrev pub is_between : ℕ → ℕ → ℕ → Bool
 is_between low high n = nat_le low n && nat_le n high
+
+-- each id has eight bytes
+abbrev pub AreWide : List ℕ → Type 0
+AreWide ids = AllByRecursion (λ n. n < 2 ^ 64) ids

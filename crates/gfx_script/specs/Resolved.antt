@@ -1,5 +1,5 @@
 -- Statements with the numbers of names in place of their codes.
-use Rattle.std.specs.Prelude.{◌≡◌, ℕ, ◌==◌, nat_eq, Bool, ◌-◌, ◌^◌, if◌then◌else◌, List, [], ◌∷◌, Option, Some, None, unwrap_or, codes}
+use Rattle.std.specs.Prelude.{ℕ, ◌==◌, nat_eq, Bool, ◌-◌, ◌^◌, if◌then◌else◌, List, [], ◌∷◌, Option, None, unwrap_or, codes}
 use Rattle.std.specs.List.{slice_split}
 use Rattle.gfx_model.specs.Events.{Event}
 use Rattle.gfx_model.specs.Checks.{same_list}
@@ -10,6 +10,8 @@ use Rattle.gfx_text_grammar.specs.Reading.{Style}
 use Rattle.gfx_text_grammar.specs.FieldReading.{Left, without_front}
 use Rattle.gfx_text_grammar.specs.Rows.{read_event}
 use Rattle.gfx_text_grammar.specs.StatementReading.{apart_of}
+use Rattle.gfx_text_grammar.specs.Styles.{named}
+use Rattle.gfx_text.specs.Renumbered.{renumbered}
 
 -- what stands for a name that may not be used
 abbrev pub unknown : ℕ
@@ -37,6 +39,10 @@ behind_by s m made (word ∷ ts) = worded_by s m word (made, ts)
 -- the event of these tokens in any style
 unfoldable pub statement_by : Style → ℕ → List (List ℕ) → Option Event
 statement_by s m tokens = behind_by s m (apart_of tokens).0 (apart_of tokens).1
+
+-- the event of these tokens with the numbers of the names that a line of this thread in this phase may use
+abbrev pub seen_by : (phase thread : ℕ) → List Defined → ℕ → List (List ℕ) → Option Event
+seen_by phase thread names m tokens = statement_by (renumbered (number_for phase thread names) named) m tokens
 
 -- the texts that stand apart, between their commas
 abbrev pub made_texts : List (List ℕ) → List (List ℕ)

@@ -1,5 +1,5 @@
 -- What has been read, as the definitions have it.
-use Rattle.std.specs.Prelude.{◌≡◌, ℕ, ◌==◌, Bool, List, [], ◌∷◌, ◌++◌, map, Option, Some, Result, Ok, Err}
+use Rattle.std.specs.Prelude.{◌≡◌, ℕ, ◌==◌, Bool, List, [], ◌∷◌, ◌++◌, map, length, Option, Some, Result, Ok, Err}
 use Rattle.std.specs.List.{list_any}
 use Rattle.gfx_script_model.specs.Statements.{Form}
 use Rattle.gfx_script_model.specs.Statements.Form.{states}
@@ -8,14 +8,16 @@ use Rattle.gfx_text_grammar.specs.StatementReading.{read_statement}
 use Rattle.gfx_script_model.specs.Scripts as script
 use Rattle.gfx_script_model.specs.Scripts.{in_order, Parsed, parses, fails}
 use Rattle.gfx_script.specs.Kinds.{kind_of}
-use Rattle.gfx_script.specs.Line.{line_of, part_of, phase_of, phases_of}
+use Rattle.gfx_script.specs.Line.{line_of, part_of, phases_of}
+use Rattle.gfx_script.specs.Staged.{thread_of_stage}
 use Rattle.gfx_script.specs.declared.line.Line.{Line}
+use Rattle.gfx_script.specs.declared.numbering.Place.{Place}
 use Rattle.gfx_script.specs.declared.script.Part.{Part}
 use Rattle.gfx_script.specs.declared.script.Script.{Script}
 use Rattle.gfx_script.specs.declared.fault.ScriptFault.{ScriptFault}
 use Rattle.gfx_script.specs.declared.fault.ScriptFault.TheVariants.{Bad, WantMemory}
 use Rattle.gfx_script.specs.declared.reading.Stage.{Stage}
-use Rattle.gfx_script.specs.declared.reading.Stage.TheVariants.{NoPhase, InPhase, InThread}
+use Rattle.gfx_script.specs.declared.reading.Stage.TheVariants.{NoPhase, InThread}
 use Rattle.gfx_script.specs.declared.reading.Reading.{Reading}
 
 -- the lines of the thread that is read
@@ -43,6 +45,12 @@ stated_form m tokens = read_statement m tokens >>= λ e. Some (states e)
 -- the thread stood in the phase that is read
 abbrev pub thread_stood : ℕ → Reading → Bool
 thread_stood thread r = list_any (λ p. p.thread == thread) (map part_of r.parts.items ++ open_part r.stage r.lines.items)
+
+-- the place of the next line
+pub record IsAt (r : Reading) (at : Place) : Type 0 where
+  pub minor : at.minor ≡ r.minor
+  pub phase : at.phase ≡ length (reading_of r).phases
+  pub thread : at.thread ≡ thread_of_stage r.stage
 
 -- the version and the names stay
 pub record SameNames (before after : Reading) : Type 0 where

@@ -1,5 +1,5 @@
 -- A statement with numbers of names as its ids, and the line that it gives.
-use Rattle.std.specs.Prelude.{◌≡◌, ℕ, ◌<◌, not, if◌then◌else◌, List, map, Option, Some, None, Result, Ok, Err, IsTrue}
+use Rattle.std.specs.Prelude.{◌≡◌, ℕ, not, if◌then◌else◌, List, map, Option, Some, None, Result, Ok, Err, IsTrue}
 use Rattle.std.specs.List.{list_all}
 use Rattle.gfx_model.specs.Events.{Event}
 use Rattle.gfx_model.specs.Fields.{named_fields}
@@ -7,7 +7,6 @@ use Rattle.gfx_model.specs.Spelling.{IsOfVersion}
 use Rattle.gfx_script_model.specs.FieldText.{FieldsFit}
 use Rattle.gfx_script_model.specs.Ids.{uses_of, defines_of, map_ids}
 use Rattle.gfx_script_model.specs.Names.{name_of, named_ids}
-use Rattle.gfx_script_model.specs.Scripts as script
 use Rattle.gfx_script_model.specs.Scripts.{Kind, Defined, name_unknown, name_taken, may_use, is_known, without_0, define, renumber}
 use Rattle.gfx_script_model.specs.Statements.{may_be_written}
 use Rattle.gfx_script.specs.Kinds.{kind_of}

@@ -1,5 +1,6 @@
 //! Calls and writes that are kept as their fields.
 ghost use Rattle.std.specs.Prelude.{◌≡◌, [], length, IfOk, IsTrue};
+ghost use Rattle.gfx_grammar.specs.Reads.{AreBytes};
 ghost use Rattle.gfx_script.specs.Kept.{is_version, keeps_event};
 
 use crate::numbering::with_memory;
@@ -106,6 +107,7 @@ impl Kept {
         requires named { length named.now ≡ length (uses_of 2 (event_of_kept self.now)) }
         ensures { IfOk result (λ effect. HasIds (event_of_kept self.now) named.now [] (event_of effect)) }
     {
+        are_bytes(&self.fields);
         let meta = match decode_meta(alloc, 2, &self.fields) {
             Ok(meta) => meta,
             Err(ParamFault::WantMemory) => return Err(WantMemory),
@@ -114,3 +116,8 @@ impl Kept {
         Ok(Effect::Meta(with_memory(&meta, named)))
     }
 }
+
+// Each is a byte.
+fn are_bytes(bytes: &[u8])
+    ensures { AreBytes bytes.now }
+{}

@@ -21,7 +21,6 @@ mod resolver;
 mod script;
 mod statement;
 mod supply;
-mod text;
 mod tokens;
 mod words;
 

@@ -219,7 +219,6 @@ impl<'c> PutIds for NamesEach<'c> {
 
     ghost alike = { λ after before. map (λ (_ : ℕ). zero) after ≡ map (λ (_ : ℕ). zero) before.0.now };
 
-    #[tactic(auto, using(crate::proofs::Marked::blank_same))]
     fn put<'i>(&self, alloc: Global, ids: Supply<'i>) -> Result<(Ids, Supply<'i>), AllocError> {
         let Supply { named, made } = ids;
         let (list, named) = put_list(alloc, self.0, named)?;
@@ -244,7 +243,6 @@ impl<'c> PutIds for MakesEach<'c> {
 
     ghost alike = { λ after before. map (λ (_ : ℕ). zero) after ≡ map (λ (_ : ℕ). zero) before.0.now };
 
-    #[tactic(auto, using(crate::proofs::Marked::blank_same))]
     fn put<'i>(&self, alloc: Global, ids: Supply<'i>) -> Result<(Ids, Supply<'i>), AllocError> {
         let Supply { named, made } = ids;
         let (list, made) = put_list(alloc, self.0, made)?;
@@ -269,7 +267,11 @@ impl PutIds for &Barriers {
 
     ghost alike = { λ after before. map (barrier_ids (λ _. 0)) after ≡ map (barrier_ids (λ _. 0)) before.now };
 
-    fn put<'i>(&self, alloc: Global, ids: Supply<'i>) -> Result<(Barriers, Supply<'i>), AllocError> {
+    fn put<'i>(
+        &self,
+        alloc: Global,
+        ids: Supply<'i>,
+    ) -> Result<(Barriers, Supply<'i>), AllocError> {
         let Supply { named, made } = ids;
         let (items, named) = put_records(alloc, self.items(), named)?;
         Ok((Barriers::of(items), Supply { named, made }))
@@ -293,7 +295,11 @@ impl PutIds for &Presents {
 
     ghost alike = { λ after before. map (present_ids (λ _. 0)) after ≡ map (present_ids (λ _. 0)) before.now };
 
-    fn put<'i>(&self, alloc: Global, ids: Supply<'i>) -> Result<(Presents, Supply<'i>), AllocError> {
+    fn put<'i>(
+        &self,
+        alloc: Global,
+        ids: Supply<'i>,
+    ) -> Result<(Presents, Supply<'i>), AllocError> {
         let Supply { named, made } = ids;
         let (items, named) = put_records(alloc, self.items(), named)?;
         Ok((Presents::of(items), Supply { named, made }))
@@ -341,7 +347,11 @@ impl PutIds for &BufferRegions {
 
     ghost alike = { λ after before. after ≡ before.now };
 
-    fn put<'i>(&self, alloc: Global, ids: Supply<'i>) -> Result<(BufferRegions, Supply<'i>), AllocError> {
+    fn put<'i>(
+        &self,
+        alloc: Global,
+        ids: Supply<'i>,
+    ) -> Result<(BufferRegions, Supply<'i>), AllocError> {
         let Supply { named, made } = ids;
         let (items, named) = put_records(alloc, self.items(), named)?;
         Ok((BufferRegions::of(items), Supply { named, made }))
@@ -365,7 +375,11 @@ impl PutIds for &ImageRegions {
 
     ghost alike = { λ after before. after ≡ before.now };
 
-    fn put<'i>(&self, alloc: Global, ids: Supply<'i>) -> Result<(ImageRegions, Supply<'i>), AllocError> {
+    fn put<'i>(
+        &self,
+        alloc: Global,
+        ids: Supply<'i>,
+    ) -> Result<(ImageRegions, Supply<'i>), AllocError> {
         let Supply { named, made } = ids;
         let (items, named) = put_records(alloc, self.items(), named)?;
         Ok((ImageRegions::of(items), Supply { named, made }))
@@ -389,7 +403,11 @@ impl PutIds for &MixedRegions {
 
     ghost alike = { λ after before. after ≡ before.now };
 
-    fn put<'i>(&self, alloc: Global, ids: Supply<'i>) -> Result<(MixedRegions, Supply<'i>), AllocError> {
+    fn put<'i>(
+        &self,
+        alloc: Global,
+        ids: Supply<'i>,
+    ) -> Result<(MixedRegions, Supply<'i>), AllocError> {
         let Supply { named, made } = ids;
         let (items, named) = put_records(alloc, self.items(), named)?;
         Ok((MixedRegions::of(items), Supply { named, made }))

@@ -5,7 +5,7 @@ ghost use Rattle.gfx_script.specs.Resolved.{is_unknown};
 ghost use Rattle.gfx_model.specs.Events.{Event, event_of, event_of_meta};
 ghost use Rattle.gfx_script_model.specs.Ids.{uses_of, defines_of};
 ghost use Rattle.gfx_script.specs.Kept.{is_version};
-ghost use Rattle.gfx_script.specs.Puts.{HasIds};
+ghost use Rattle.gfx_script.specs.Puts.{HasIds, AreWide};
 ghost use Rattle.gfx_script.specs.Stated.{Stated, NumbersLine};
 ghost use Rattle.gfx_script_model.specs.Statements.{may_be_written};
 
@@ -47,6 +47,8 @@ pub(crate) fn number_line<'t>(
         return Err(LineFault::Refused(ScriptKind::NameUnknown));
     }
     let defines = define_all(alloc, names, words, at.phase, at.thread)?;
+    are_wide(uses.items());
+    are_wide(defines.items());
     let effect = renumber(alloc, effect, &uses, &defines)?;
     match Line::new(alloc, at.number, at.minor, &effect, defines, uses) {
         Ok(line) => Ok(line),
@@ -93,6 +95,11 @@ fn has_unknown(ids: &Ids) -> bool
     ids.items().contains(&UNKNOWN)
 }
 
+// Each is a number of eight bytes.
+fn are_wide(ids: &[u64])
+    ensures { AreWide ids.now }
+{}
+
 // The call or write with these ids in place of its own.
 #[tactic(auto, unfolding(gfx_model::specs::Spelling::type_of, gfx_script_model::specs::Ids::uses_of, gfx_script_model::specs::Ids::defines_of, gfx_script_model::specs::Ids::map_ids))]
 fn renumber<'c>(
@@ -126,9 +133,7 @@ pub(crate) fn with_memory<'c>(write: &Meta<'c>, named: &[u64]) -> Meta<'c>
     requires named { length named.now ≡ 1 }
     ensures { HasIds (event_of_meta write.now) named.now [] (event_of_meta result) }
 {
-    let [memory] = named else {
-        unreachable!()
-    };
+    let [memory] = named else { unreachable!() };
     match write {
         Meta::FillMemory { offset, bytes, .. } => Meta::FillMemory {
             memory: *memory,

@@ -3,7 +3,8 @@ ghost use Rattle.std.specs.Prelude.{◌≡◌, ◌≤◌, ◌^◌, ◌==◌, ◌
 ghost use Rattle.std.specs.List.{list_any};
 ghost use Rattle.gfx_model.specs.Limits.{max_phases};
 ghost use Rattle.gfx_script_model.specs.Scripts as script;
-ghost use Rattle.gfx_script.specs.Staged.{is_staged, is_outside};
+ghost use Rattle.gfx_script.specs.Kept.{is_version};
+ghost use Rattle.gfx_script.specs.Staged.{is_staged, is_outside, is_in_thread, thread_of_stage};
 ghost use Rattle.gfx_script_model.specs.Scripts.{at_first, set_version, begin_thread, in_order};
 ghost use Rattle.gfx_text_grammar.specs.Parsing.{form_of, form_outcome, line_outcome};
 
@@ -12,6 +13,7 @@ use crate::kind::ScriptKind;
 use crate::line::Line;
 use crate::line_fault::LineFault;
 use crate::names::Names;
+use crate::numbering::Place;
 use crate::plain::Plain;
 use crate::script::{Lines, Part, Parts, Phase, Phases, Script};
 use crate::tokens::tokens;
@@ -36,13 +38,14 @@ pub(crate) struct Reading<'t> {
     pub(crate) lines: Vec<Line>,
     pub(crate) stage: Stage,
     pub(crate) names: Names<'t>,
+    ghost version: { IsTrue (is_version minor) },
     ghost staged: { IsTrue (is_staged stage phases.items parts.items lines.items) },
 }
 
 impl<'t> Reading<'t> {
     ghost use Rattle.gfx_script.specs.Answers.{GivesOutcome};
     ghost use Rattle.gfx_script.specs.Line.{phases_of};
-    ghost use Rattle.gfx_script.specs.State.{reading_of, open_part, thread_stood, EndsPart, EndsPhase};
+    ghost use Rattle.gfx_script.specs.State.{reading_of, open_part, thread_stood, IsAt, EndsPart, EndsPhase};
 
     /// Nothing has been read.
     pub(crate) fn new(alloc: Global) -> Self
@@ -75,11 +78,36 @@ impl<'t> Reading<'t> {
         is_phase(tokens) && self.count() >= MAX_PHASES
     }
 
-    /// The thread that is read, or 0 where none is.
-    pub(crate) fn thread(&self) -> u32 {
+    /// Where a line with this number stands.
+    pub(crate) fn place(&self, number: u32) -> Place
+        ensures number { result.number ≡ number }
+        ensures place { IsAt self.now result }
+    {
+        Place {
+            number,
+            minor: self.minor,
+            phase: self.count(),
+            thread: self.thread(),
+        }
+    }
+
+    // The thread that is read, or 0 where none is.
+    fn thread(&self) -> u32
+        ensures { result ≡ thread_of_stage self.now.stage }
+    {
         match self.stage {
             Stage::InThread(thread) => thread,
             _ => 0,
+        }
+    }
+
+    /// Whether a thread is read.
+    pub(crate) fn is_in_thread(&self) -> bool
+        ensures { result ≡ is_in_thread self.now.stage }
+    {
+        match self.stage {
+            Stage::InThread(_) => true,
+            _ => false,
         }
     }
 
@@ -161,18 +189,20 @@ impl<'t> Reading<'t> {
     fn has_thread(&self, thread: u32) -> bool
         ensures { result ≡ thread_stood thread self.now }
     {
-        let ended = any_has(&self.parts, thread);
-        ended || self.is_open(thread)
+        if any_has(&self.parts, thread) {
+            return true;
+        }
+        self.is_open(thread)
     }
 
     // Whether the thread is the one that is read.
-    #[tactic(auto, using(crate::proofs::Standing::or_none))]
     fn is_open(&self, thread: u32) -> bool
         ensures { result ≡ list_any (λ p. p.thread == thread) (open_part self.now.stage self.now.lines.items) }
     {
         match self.stage {
-            Stage::InThread(open) => open == thread,
-            _ => false,
+            Stage::NoPhase => false,
+            Stage::InPhase => false,
+            Stage::InThread(read) => read == thread,
         }
     }
 

@@ -1,17 +1,18 @@
 //! The numbers of the names that a line may use.
 ghost use Rattle.std.specs.Prelude.{◌≡◌, true};
 ghost use Rattle.gfx_text_grammar.specs.Styles.{named};
-ghost use Rattle.gfx_script.specs.Text.{renumbered};
+ghost use Rattle.gfx_text.specs.Renumbered.{renumbered};
 ghost use Rattle.gfx_script.specs.Resolved.{number_for};
 
 use crate::names::Names;
-use crate::text::ReadId;
 use crate::words::{is_name, is_word};
+use gfx_text::ReadId;
 
 /// Stands for a name that a line may not use. No name has this number.
 pub(crate) const UNKNOWN: u64 = u64::MAX;
 
 /// The names that a line of a thread in a phase may use.
+#[derive(Clone, Copy)]
 pub(crate) struct Resolver<'n, 't> {
     pub names: &'n Names<'t>,
     pub phase: usize,

@@ -1,12 +1,12 @@
 //! Statements: calls and writes.
 ghost use Rattle.std.specs.Prelude.{◌≡◌, map};
 ghost use Rattle.gfx_model.specs.Events.{event_of};
-ghost use Rattle.gfx_script.specs.Text.{Gives};
+ghost use Rattle.gfx_text.specs.Gives.{Gives};
 ghost use Rattle.gfx_script.specs.Resolved.{statement_by};
 ghost use Rattle.gfx_text_grammar.specs.StatementReading.{apart_of};
 
-use crate::text::{Left, ReadId, TextFault, read_call, read_meta};
 use crate::words::is_word;
+use gfx_text::{Left, ReadId, TextFault, read_call, read_meta};
 use gfx_types::Effect;
 use std::alloc::Global;
 

@@ -1,4 +1,4 @@
-use Rattle.std.proofs.Common.{◌≡◌, length, ◌-◌, ap, sym, ◌∙◌, arith, le_refl}
+use Rattle.std.proofs.Common.{length, ◌-◌, sym, ◌∙◌, arith}
 use Rattle.gfx_script_model.specs.Scripts.{parses}
 use Rattle.gfx_script.specs.State.{reading_of}
 use Rattle.gfx_script.proofs.Parsed.{parse_begins, parse_goes_on, fault_stops, parse_ends}

@@ -1,4 +1,4 @@
-use Rattle.std.proofs.Common.{◌≡◌, ℕ, ◌+◌, ◌≤◌, ◌<◌, suc, List, [], ◌∷◌, length, get_or, None, sym, ◌∙◌, ap, arith}
+use Rattle.std.proofs.Common.{◌≡◌, ℕ, ◌≤◌, ◌<◌, List, [], ◌∷◌, length, get_or, None, sym, ◌∙◌, arith}
 use Rattle.gfx_text_grammar.specs.Words.{number_in}
 use Rattle.gfx_script.specs.Plain.{one_digit, two_digits}
 use Rattle.gfx_script.proofs.Threads.{number-one, number-two, number-many, number-none}

@@ -1,4 +1,4 @@
-use Rattle.std.proofs.Common.{◌≡◌, ◌<◌, map, length, true, false, refl, sym, subst, arith}
+use Rattle.std.proofs.Common.{◌≡◌, ◌<◌, map, length, true, refl, sym, subst, arith}
 use Rattle.std.proofs.lemmas.List.{length-map}
 use Rattle.gfx_script.specs.Numbered.{is_taken}
 use Rattle.gfx_script.proofs.NamePlaces.{so_far_goes_on, so_far_clashes, text-at}
@@ -8,8 +8,7 @@ pub returns-in-None : goal.returns-in-None
 returns-in-None c =
     let h = rw c.in-None.is at c.in_ok-number.ensures in
     let texts = map (λ t. t.now) c.args.words.now in
-    let few : c.words.word-index < length texts = omega (arith, c.words-test.true, length-map c.args.words.now (λ t. t.now)) in
-    (
+    let few : c.words.word-index < length texts = omega (arith, c.words-test.true, length-map c.args.words.now (λ t. t.now)) in (
       refl,
       so_far_clashes c.args.phase c.args.thread c.args.names.now c.words.names texts c.words.word-index c.words.numbers.items few c.words.invariant
           (subst (λ z. is_taken c.words.names z ≡ true) (sym (text-at c.args.words.now c.words.word-index _ c.words-test.true)) h.0),

@@ -1,5 +1,4 @@
 use Rattle.gfx_model.specs.Events.{event_of}
-use Rattle.gfx_script_model.specs.Ids.{defines_of}
 use Rattle.std.proofs.lemmas.Result.{IfOk-weaker}
 use Rattle.gfx_script.specs.Line.{event_of_kept}
 use Rattle.gfx_script.proofs.Keeping.{nothing_made}

@@ -1,9 +1,8 @@
 use Rattle.std.proofs.Common.{[], ◌∷◌, ◌≡◌, map}
-use Rattle.gfx_types.specs.declared.lists.Barrier.{Barrier}
 use Rattle.gfx_model.specs.Fields.Value.{records}
 use Rattle.gfx_model.specs.Fields.Records.{barriers}
 use Rattle.gfx_script_model.specs.Ids.{named_by, barrier_ids}
-use Rattle.gfx_script.proofs.Marked.{barrier_names, few, takes_records, unmapped}
+use Rattle.gfx_script.proofs.Marked.{barrier_names, few, takes_records}
 use Rattle.gfx_script.proofs.marks.RefBarriersPutIds.put.Goals as goal
 
 pub put_records-requires : goal.put_records-requires

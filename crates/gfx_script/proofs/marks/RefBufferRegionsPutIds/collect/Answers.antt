@@ -1,6 +1,3 @@
-use Rattle.std.proofs.Common.{ap, sym, ◌∙◌, ◌++◌, List, ℕ}
-use Rattle.std.specs.List.{flat_map}
-use Rattle.std.proofs.lemmas.Result.{on_ok_weaker}
 use Rattle.gfx_script.proofs.Marked.{buffer_region_names}
 use Rattle.gfx_script.proofs.marks.RefBufferRegionsPutIds.collect.Goals as goal
 

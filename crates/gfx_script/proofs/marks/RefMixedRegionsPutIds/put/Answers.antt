@@ -1,4 +1,4 @@
-use Rattle.std.proofs.Common.{[], ◌∷◌, ◌≡◌, List, map}
+use Rattle.std.proofs.Common.{[], ◌≡◌}
 use Rattle.gfx_types.specs.declared.lists.MixedRegion.{MixedRegion}
 use Rattle.gfx_model.specs.Fields.Value.{records}
 use Rattle.gfx_model.specs.Fields.Records.{mixed_regions}

@@ -1,7 +1,5 @@
-use Rattle.std.proofs.Common.{◌≡◌, Some, sym, ap, ◌∙◌, subst, arith}
-use Rattle.gfx_script.specs.Numbered.{ArePlaces, definition_of}
+use Rattle.std.proofs.Common.{Some, sym, ◌∙◌, arith}
 use Rattle.gfx_script.proofs.NamePlaces.{places-defined, place-updates}
-use Rattle.std.proofs.Common.{map}
 use Rattle.gfx_script.proofs.names.Names.define.Goals as goal
 
 pub invariant_of-self-in-Ok : goal.invariant_of-self-in-Ok

@@ -1,4 +1,8 @@
-use Rattle.std.proofs.Common.{ap, sym, ◌∙◌, refl}
+use Rattle.std.proofs.Common.{sym, ◌∙◌, ◌++◌}
+use Rattle.gfx_script_model.specs.Scripts.{reads, in_order}
+use Rattle.gfx_script.specs.Line.{phases_of}
+use Rattle.gfx_script.specs.State.{open_phase}
+use Rattle.gfx_script.specs.declared.reading.Stage.TheVariants.{InThread}
 use Rattle.gfx_script.proofs.Standing.{thread_outside, thread_again, thread_begins}
 use Rattle.gfx_script.proofs.reading.Reading.begin_thread.Goals as goal
 
@@ -12,5 +16,11 @@ returns-then-has_thread c =
 pub returns : goal.returns
 returns c =
     let ended = c.in_ok-end_part.ensures in
-    thread_begins c.args.thread c.args.self.now (sym c.is_outside.ensures ∙ c.if-is_outside.false) _ (sym c.has_thread.ensures ∙ c.if-has_thread.false)
-    ended.same.minor ended.same.names ended.phases ended.parts ended.lines refl
+    let after = c.end_part.new.self in
+    thread_begins c.args.thread c.args.self.now (sym c.is_outside.ensures ∙ c.if-is_outside.false) after.phases.items after.parts.items after.lines.items
+    (sym c.has_thread.ensures ∙ c.if-has_thread.false) ended.phases ended.parts ended.lines
+    ∙ (λ i. reads (record {
+      minor = sym ended.same.minor i;
+      phases = in_order (phases_of after.phases.items ++ open_phase (InThread c.args.thread) after.parts.items after.lines.items);
+      names = sym ended.same.names i;
+    }))

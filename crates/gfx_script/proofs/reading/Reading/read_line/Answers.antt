@@ -1,7 +1,6 @@
-use Rattle.std.proofs.Common.{map, length, nat_le, ◌≡◌, ◌&&◌, Some, None, true, false, sym, ap, ◌∙◌, subst, option_map}
+use Rattle.std.proofs.Common.{map, length, nat_le, ◌≡◌, ◌&&◌, true, false, sym, ap, ◌∙◌, subst, option_map}
 use Rattle.gfx_model.specs.Limits.{max_phases}
-use Rattle.gfx_script_model.specs.Scripts.{Outcome, Kind, is_phase}
-use Rattle.gfx_script_model.specs.Statements.{tokens_of}
+use Rattle.gfx_script_model.specs.Scripts.{Outcome, is_phase}
 use Rattle.gfx_text_grammar.specs.Parsing.{form_of, form_outcome}
 use Rattle.gfx_script.specs.Answers.{GivesOutcome}
 use Rattle.gfx_script.specs.Kinds.{kind_of}

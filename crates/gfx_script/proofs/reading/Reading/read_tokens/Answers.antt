@@ -1,4 +1,4 @@
-use Rattle.std.proofs.Common.{map, sym, ap, ◌∙◌, subst, option_map, Some, None}
+use Rattle.std.proofs.Common.{map, sym, ap, ◌∙◌, subst, option_map, Some}
 use Rattle.gfx_script_model.specs.Statements.Form.{skips, sets_version, begins_phase, begins_thread}
 use Rattle.gfx_script_model.specs.Scripts.{Outcome}
 use Rattle.gfx_script.specs.Answers.{GivesOutcome}

@@ -1,0 +1,14 @@
+use Rattle.std.proofs.Common.{refl}
+use Rattle.gfx_script.proofs.Marked.{blank_same}
+use Rattle.gfx_script.proofs.marks.MakesEachPutIds.put.Goals as goal
+
+pub returns : goal.returns
+returns c =
+    let taken = c.in_ok-list.ensures in
+    record {
+      front_made = taken.0;
+      front_named = refl;
+      as_many_made = taken.1;
+      as_many_named = refl;
+      others = blank_same _ _ taken.1;
+    }

@@ -1,9 +1,0 @@
-//! Tests of scripts: texts that are scripts, and texts with a fault, each with its line and kind.
-#![tactic(auto)]
-
-#[cfg(test)]
-mod calls;
-#[cfg(test)]
-mod faults;
-#[cfg(test)]
-mod limits;
