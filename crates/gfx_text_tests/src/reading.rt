@@ -1,0 +1,77 @@
+// Lines that are read, and lines that are bad.
+use crate::lines::{BAD, CALLS, METAS, PRESENTS};
+use gfx_text::{Left, Numbered, TextFault, read_call, read_meta};
+use gfx_types::{Call, Meta};
+use std::alloc::Global;
+use std::test::Fail;
+
+fn call_of<'a>(
+    alloc: Global,
+    minor: u32,
+    line: &str,
+    room: &'a mut Vec<u8>,
+) -> Result<Call<'a>, TextFault> {
+    let words: Vec<&[u8]> = line.as_bytes().split(|c| *c == b' ').collect(alloc)?;
+    let Some((name, fields)) = words.as_slice().split_first() else {
+        return Err(TextFault::Bad);
+    };
+    read_call(
+        alloc,
+        &Numbered,
+        minor,
+        *name,
+        Left { made: &[], fields },
+        room,
+    )
+}
+
+fn meta_of<'a>(alloc: Global, line: &str, room: &'a mut Vec<u8>) -> Result<Meta<'a>, TextFault> {
+    let words: Vec<&[u8]> = line.as_bytes().split(|c| *c == b' ').collect(alloc)?;
+    let Some((name, fields)) = words.as_slice().split_first() else {
+        return Err(TextFault::Bad);
+    };
+    read_meta(alloc, &Numbered, *name, Left { made: &[], fields }, room)
+}
+
+#[test]
+fn each_call_is_read_in_both_versions(rt: HostRuntime) -> Result<(), Fail> {
+    let alloc = rt.alloc();
+    for (line, said) in CALLS {
+        for minor in [1, 2] {
+            let mut room = Vec::new(alloc);
+            let call = call_of(alloc, minor, line, &mut room)?;
+            let text = format!(in alloc; "{call:?}")?;
+            assert_eq!(rt; text.as_str(), said);
+        }
+    }
+    for (minor, line, said) in PRESENTS {
+        let mut room = Vec::new(alloc);
+        let call = call_of(alloc, minor, line, &mut room)?;
+        let text = format!(in alloc; "{call:?}")?;
+        assert_eq!(rt; text.as_str(), said);
+    }
+    Ok(())
+}
+
+#[test]
+fn each_metadata_is_read(rt: HostRuntime) -> Result<(), Fail> {
+    let alloc = rt.alloc();
+    for (line, said) in METAS {
+        let mut room = Vec::new(alloc);
+        let meta = meta_of(alloc, line, &mut room)?;
+        let text = format!(in alloc; "{meta:?}")?;
+        assert_eq!(rt; text.as_str(), said);
+    }
+    Ok(())
+}
+
+#[test]
+fn a_line_with_a_fault_is_bad(rt: HostRuntime) -> Result<(), Fail> {
+    let alloc = rt.alloc();
+    for (fault, line) in BAD {
+        let mut room = Vec::new(alloc);
+        let answer = call_of(alloc, 1, line, &mut room);
+        assert!(rt; matches!(answer, Err(TextFault::Bad)), "{fault}");
+    }
+    Ok(())
+}
