@@ -1,6 +1,7 @@
 //! The log: one file of the blocks of all threads.
-ghost use Rattle.std.specs.Prelude.{◌≡◌, ℕ, [], ◌++◌, ◌≤◌, ◌^◌, length, IfOk};
+ghost use Rattle.std.specs.Prelude.{◌≡◌, ℕ, [], ◌++◌, ◌≤◌, length, IfOk};
 ghost use Rattle.gfx_model.specs.Events.{Event};
+ghost use Rattle.gfx_model.specs.Limits.{max_log};
 ghost use Rattle.gfx_model.specs.Spelling.{header};
 ghost use Rattle.gfx_script_model.specs.Runs.{log_bytes};
 ghost use Rattle.gfx_tracker.specs.Tracker.{answers};
@@ -16,12 +17,10 @@ use crate::thread_buffer::ThreadBuffer;
 use gfx_blocks::put_header;
 use gfx_seats::Grows;
 use gfx_tracker::{ApplyFault, Tracker};
+use gfx_types::limits::MAX_LOG;
 use gfx_types::{OpList, WantMemory};
 use std::alloc::Global;
 use std::marker::Model;
-
-/// The most bytes of a log, its header among them.
-const MAX_LOG: u64 = 1 << 28;
 
 /// A file of blocks that break no rule, each under its thread, and the tracker that stands for them.
 #[derive(Drop)]
@@ -78,7 +77,7 @@ impl Log {
     /// How many blocks it has. It takes no memory.
     pub fn blocks(&self) -> u64
         ensures count { result ≡ length self.now.entries }
-        ensures few { result ≤ 2 ^ 28 }
+        ensures few { result ≤ max_log }
         ensures sound { IsSound self.now.minor self.now.entries }
     {
         self.count
@@ -175,7 +174,7 @@ fn refusal(fault: ApplyFault) -> BlockFault
 
 /// What is answered where the append ends `done` effects behind the block at `from`.
 fn end_at(fault: BlockFault, from: u64, done: u32) -> AppendFault
-    requires { from ≤ 2 ^ 28 }
+    requires { from ≤ max_log }
     ensures { result ≡ ended fault from done }
 {
     match fault {

@@ -19,6 +19,7 @@ ghost use Rattle.gfx_commands.specs.Recorded.{event_in, IsRecorded};
 ghost use Rattle.gfx_commands.specs.Recording.{state_of, buffer_of, names};
 ghost use Rattle.gfx_commands.specs.Uses.{IsIndex};
 ghost use Rattle.gfx_model.specs.Layouts.{asked_in};
+ghost use Rattle.gfx_model.specs.Limits.{max_kept_bytes, max_kept_commands};
 ghost use Rattle.gfx_commands.specs.Recordings.{buffers, commands_total, bytes_total, HoldsKept};
 
 use crate::changes::{BufferChange, ObjectEnd, PoolReset, UserInvalidated};
@@ -145,8 +146,8 @@ impl Recordings {
         ensures bytes { (ids : List ℕ) → is_distinct ids ≡ true → HoldsKept (buffers self.now) ids → sum_by (λ x. bytes_in (buffers self.now x)) ids ≡ result.bytes }
         ensures same_commands { commands_total self.now ≡ result.commands }
         ensures same_bytes { bytes_total self.now ≡ result.bytes }
-        ensures few { result.commands ≤ 2 ^ 20 }
-        ensures small { result.bytes ≤ 2 ^ 28 }
+        ensures few { result.commands ≤ max_kept_commands }
+        ensures small { result.bytes ≤ max_kept_bytes }
     {
         self.totals
     }
@@ -170,8 +171,8 @@ impl Recordings {
     pub fn add(&mut self, cb: u64, call: &Call<'_>) -> Result<(), WantMemory>
         requires recording { IsTrue (is_recording (buffers self.old cb).state) }
         requires spelled { HasSpelling 1 (event_of_call call.now) }
-        requires few { commands_total self.old + 1 ≤ 2 ^ 20 }
-        requires small { bytes_total self.old + length (spelling 1 (event_of_call call.now)) ≤ 2 ^ 28 }
+        requires few { commands_total self.old + 1 ≤ max_kept_commands }
+        requires small { bytes_total self.old + length (spelling 1 (event_of_call call.now)) ≤ max_kept_bytes }
         ensures ok { OnOk result (buffers self.new ≡ (λ x. if cb == x then record (buffers self.old x) { commands = (buffers self.old x).commands ++ event_of_call call.now ∷ [] } else buffers self.old x)) }
         ensures err { OnErr result (self.new ≡ self.old) }
     {
@@ -354,8 +355,8 @@ impl Recordings {
         ensures others { (row : Recording) → map.insert self.new cb row ≡ map.insert self.old cb row }
         ensures commands { commands_total self.new + commands_in (buffer_of result) ≡ commands_total self.old }
         ensures bytes { bytes_total self.new + bytes_in (buffer_of result) ≡ bytes_total self.old }
-        ensures few { commands_total self.old ≤ 2 ^ 20 }
-        ensures small { bytes_total self.old ≤ 2 ^ 28 }
+        ensures few { commands_total self.old ≤ max_kept_commands }
+        ensures small { bytes_total self.old ≤ max_kept_bytes }
     {
         let none = Recording::new(self.alloc, CbState::Initial, 0);
         let Some(row) = self.rows.replace(cb, none) else {
@@ -368,8 +369,8 @@ impl Recordings {
     // Puts a recording in the place of what was kept of a buffer.
     fn put(&mut self, cb: u64, row: Recording)
         requires kept { IsSome (map.get self.old cb) }
-        requires few { commands_total self.old + commands_in (buffer_of row) ≤ 2 ^ 20 }
-        requires small { bytes_total self.old + bytes_in (buffer_of row) ≤ 2 ^ 28 }
+        requires few { commands_total self.old + commands_in (buffer_of row) ≤ max_kept_commands }
+        requires small { bytes_total self.old + bytes_in (buffer_of row) ≤ max_kept_bytes }
         ensures { self.new ≡ map.insert self.old cb row }
     {
         let totals = self.totals.with(&row);

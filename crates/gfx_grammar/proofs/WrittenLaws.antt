@@ -49,7 +49,7 @@ good_head kind size low high small =
     ∙ refuse-false (not (nat_le 1 kind && nat_le kind 5)) UnknownBlock None (known kind low high)
 
 -- size, type and payload
-block-fields : (kind : ℕ) (load : List ℕ) → kind ≤ 5 → length load ≤ 2 ^ 27
+pub block-fields : (kind : ℕ) (load : List ℕ) → kind ≤ 5 → length load ≤ 2 ^ 27
     → (size_field (block_bytes kind load) ≡ length load) × (type_field (block_bytes kind load) ≡ kind) × (payload_field (block_bytes kind load) ≡ load)
 block-fields kind load high small =
     let head = to_le_bytes w64 (length load) ++ to_le_bytes w32 kind in

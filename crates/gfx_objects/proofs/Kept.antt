@@ -11,6 +11,7 @@ use Rattle.gfx_model.specs.Steps.{kind_number}
 use Rattle.gfx_model.specs.Steps.{Detail}
 use Rattle.gfx_model.specs.Questions.{Binding}
 use Rattle.gfx_model.specs.Views.{detail_size, detail_bytes}
+use Rattle.gfx_model.specs.Limits.{max_live_bytes, max_live_objects}
 use Rattle.gfx_objects.specs.declared.object.Object.{Object}
 use Rattle.gfx_objects.specs.Object.{detail_of, bound_of}
 use Rattle.gfx_objects.specs.Objects.{Kept, IsRow, RestsIn, IsSound, IsIndexed, of_kind, children_in, bytes_in}
@@ -89,7 +90,7 @@ module _ (k n : Kept) (id : ℕ) (o : Object) (rows : n.rows ≡ map.insert k.ro
           inside m false e now = rests.inside m now
 
   pub sound_created : holds k.used id ≡ false → holds n.used ≡ (λ other. id == other || holds k.used other) → IsRow id o → bound_of o.detail ≡ None
-      → map.len k.rows < 65536 → bytes_in k.rows + detail_bytes (detail_of o.detail) ≤ 2 ^ 28 → IsSound k → IsSound n
+      → map.len k.rows < max_live_objects → bytes_in k.rows + detail_bytes (detail_of o.detail) ≤ max_live_bytes → IsSound k → IsSound n
   sound_created unused used is unbound few small sound = record {
     row = λ x r some. row_at x r is sound.row some;
     bound =

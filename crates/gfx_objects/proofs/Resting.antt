@@ -15,6 +15,7 @@ use Rattle.gfx_model.specs.Steps.{Detail as Parameters, Object as Made, kind_of,
 use Rattle.gfx_model.specs.Steps.Detail.{a_memory, a_buffer, an_image}
 use Rattle.gfx_model.specs.Questions.{Binding, passes, image_size, texel_size}
 use Rattle.gfx_model.specs.Views.{Window as Shown, is_live, window, size_of, detail_size, detail_window, bound_window, detail_bytes}
+use Rattle.gfx_model.specs.Limits.{max_extent, max_live_bytes}
 use Rattle.gfx_objects.specs.declared.object.Object.{Object}
 use Rattle.gfx_objects.specs.declared.object.Window.{Window}
 use Rattle.gfx_objects.specs.declared.object.Detail.{Detail}
@@ -62,7 +63,7 @@ counted (a_memory size) e = refl
 counted _ e = absurd cc
 
 -- a live memory is within the limit on live bytes
-memory_small : (k : Kept) → IsSound k → (m : ℕ) (o : Object) → map.get k.rows m ≡ Some o → is_memory (detail_of o.detail) ≡ true → detail_size (detail_of o.detail) ≤ 2 ^ 28
+memory_small : (k : Kept) → IsSound k → (m : ℕ) (o : Object) → map.get k.rows m ≡ Some o → is_memory (detail_of o.detail) ≡ true → detail_size (detail_of o.detail) ≤ max_live_bytes
 memory_small k sound m o some memory =
     let part = total_removed k.rows m o some (λ id o. detail_bytes (detail_of o.detail)) in
     let all = sound.small in
@@ -77,31 +78,31 @@ texel_small (Some f) = at f
     at Format.R8Uint = omega arith
     at _ = omega arith
 
-image_small : (format width height usage : ℕ) (index : Option ℕ) → is_within (an_image format width height usage index) ≡ true → image_size format width height ≤ 2 ^ 28
+image_small : (format width height usage : ℕ) (index : Option ℕ) → is_within (an_image format width height usage index) ≡ true → image_size format width height ≤ max_live_bytes
 image_small format width height usage index e =
-    let extent = and_parts (nat_le width 4096) (nat_le height 4096) e in
-    let area = mul-le width height 4096 4096 (leb-true width 4096 extent.0) (leb-true height 4096 extent.1) in
-    let bytes = mul-le (width * height) (texel_size format) (4096 * 4096) 4 area (texel_small (format_of format)) in
+    let extent = and_parts (nat_le width max_extent) (nat_le height max_extent) e in
+    let area = mul-le width height max_extent max_extent (leb-true width max_extent extent.0) (leb-true height max_extent extent.1) in
+    let bytes = mul-le (width * height) (texel_size format) (max_extent * max_extent) 4 area (texel_small (format_of format)) in
     omega (arith, bytes)
 
 module _ (k : Kept) (sound : IsSound k) where
   bound_ends : (x : ℕ) (o : Object) → map.get k.rows x ≡ Some o → (b : Option Binding) → bound_of o.detail ≡ b → (w : Shown)
-      → bound_window (answers k) (detail_size (detail_of o.detail)) b ≡ Some w → w.offset + w.length ≤ 2 ^ 28
+      → bound_window (answers k) (detail_size (detail_of o.detail)) b ≡ Some w → w.offset + w.length ≤ max_live_bytes
   bound_ends x o some None is w e = absurd cc
   bound_ends x o some (Some b) is w e = by (is_live (answers k) kind.Memory b.memory) refl e
     where
       by : (t : Bool) → is_live (answers k) kind.Memory b.memory ≡ t
-          → cond t (Some (record { place = place.Memory b.memory; offset = b.offset; length = detail_size (detail_of o.detail) })) None ≡ Some w → w.offset + w.length ≤ 2 ^ 28
+          → cond t (Some (record { place = place.Memory b.memory; offset = b.offset; length = detail_size (detail_of o.detail) })) None ≡ Some w → w.offset + w.length ≤ max_live_bytes
       by false f e = absurd cc
       by true live e =
           let row = memory_row k b.memory live in
           let fits = (sound.bound x o b some is).inside row.0 row.1 in
           let small = memory_small k sound b.memory row.0 row.1 (memory_live k b.memory row.0 row.1 live) in
           let same : record { place = place.Memory b.memory; offset = b.offset; length = detail_size (detail_of o.detail) } ≡ w = cc in
-          subst (λ (w : Shown). w.offset + w.length ≤ 2 ^ 28) same (omega (arith, fits, small))
+          subst (λ (w : Shown). w.offset + w.length ≤ max_live_bytes) same (omega (arith, fits, small))
 
   detail_ends : (x : ℕ) (o : Object) → map.get k.rows x ≡ Some o → (d : Parameters) → detail_of o.detail ≡ d → (w : Shown)
-      → detail_window (answers k) x d ≡ Some w → w.offset + w.length ≤ 2 ^ 28
+      → detail_window (answers k) x d ≡ Some w → w.offset + w.length ≤ max_live_bytes
   detail_ends x o some (a_buffer size usage) is w e =
       bound_ends x o some (bound_of o.detail) refl w (ap (λ d. bound_window (answers k) (detail_size d) (bound_of o.detail)) is ∙ ap (bound_window (answers k) size) (sym (bound_at k x o some o.detail refl)) ∙ e)
   detail_ends x o some (an_image format width height usage None) is w e =
@@ -110,10 +111,10 @@ module _ (k : Kept) (sound : IsSound k) where
   detail_ends x o some (an_image format width height usage (Some index)) is w e =
       let small = image_small format width height usage (Some index) (ap is_within (sym is) ∙ (sound.row x o some).within) in
       let same : record { place = place.Image x; offset = 0; length = image_size format width height } ≡ w = cc in
-      subst (λ (w : Shown). w.offset + w.length ≤ 2 ^ 28) same (omega (arith, small))
+      subst (λ (w : Shown). w.offset + w.length ≤ max_live_bytes) same (omega (arith, small))
   detail_ends x o some _ is w e = absurd cc
 
   -- the window of a live object, where it has one
-  pub window_ends : (x : ℕ) (o : Object) → map.get k.rows x ≡ Some o → (w : Option Window) → option_map window_of w ≡ window (answers k) x → IfSome w (λ w. w.offset + w.length ≤ 2 ^ 28)
+  pub window_ends : (x : ℕ) (o : Object) → map.get k.rows x ≡ Some o → (w : Option Window) → option_map window_of w ≡ window (answers k) x → IfSome w (λ w. w.offset + w.length ≤ max_live_bytes)
   window_ends x o some None is = tt
   window_ends x o some (Some w) is = detail_ends x o some (detail_of o.detail) refl (window_of w) (sym (is ∙ window_at k x o some))

@@ -10,6 +10,7 @@ use Rattle.gfx_model.specs.Steps.{Detail as Parameters, Object as Made, kind_of,
 use Rattle.gfx_model.specs.Steps.Detail.{an_instance, a_surface, a_device, a_queue, a_memory, a_buffer, an_image, a_pool, a_command_buffer, a_fence, a_semaphore, a_swapchain}
 use Rattle.gfx_model.specs.Questions.{Binding as Bound, Range, is_owned, range_of}
 use Rattle.gfx_model.specs.Views.{Window as Shown}
+use Rattle.gfx_model.specs.Limits.{max_extent, max_swapchain_images}
 
 -- the parameters of an object's creation
 abbrev pub detail_of : Detail → Parameters
@@ -62,8 +63,8 @@ pub record IsNew (detail : Detail) : Type 0 where
 
 -- extents and the number of images are within their limits
 abbrev pub is_within : Parameters → Bool
-is_within (an_image format width height usage index) = nat_le width 4096 && nat_le height 4096
-is_within (a_swapchain surface images format width height usage) = nat_le images 16 && nat_le width 4096 && nat_le height 4096
+is_within (an_image format width height usage index) = nat_le width max_extent && nat_le height max_extent
+is_within (a_swapchain surface images format width height usage) = nat_le images max_swapchain_images && nat_le width max_extent && nat_le height max_extent
 is_within _ = true
 
 -- a buffer or an image

@@ -13,6 +13,7 @@ use Rattle.gfx_table.specs.Rows.{total}
 use Rattle.gfx_model.specs.Steps.{Detail, kind_of, kind_number}
 use Rattle.gfx_model.specs.Questions.{Binding, new_buffer}
 use Rattle.gfx_model.specs.Views.{View, is_live, detail_size, detail_bytes}
+use Rattle.gfx_model.specs.Limits.{max_live_bytes, max_live_objects}
 use Rattle.gfx_objects.specs.declared.object.Object.{Object}
 use Rattle.gfx_objects.specs.Object.{made, detail_of, bound_of, mapped_of, layout_of, is_within}
 
@@ -70,8 +71,8 @@ pub record IsSound (k : Kept) : Type 0 where
   pub row : (id : ℕ) (o : Object) → map.get k.rows id ≡ Some o → IsRow id o
   pub bound : (id : ℕ) (o : Object) (b : Binding) → map.get k.rows id ≡ Some o → bound_of o.detail ≡ Some b → RestsIn k (detail_of o.detail) b
   pub used : (id : ℕ) → is_some (map.get k.rows id) ≡ true → holds k.used id ≡ true
-  pub few : map.len k.rows ≤ 65536
-  pub small : total (λ id o. detail_bytes (detail_of o.detail)) k.rows ≤ 2 ^ 28
+  pub few : map.len k.rows ≤ max_live_objects
+  pub small : total (λ id o. detail_bytes (detail_of o.detail)) k.rows ≤ max_live_bytes
 
 -- the mark of a row that is of a kind
 abbrev pub mark : Kind → ℕ → Object → Option (Unit {0})

@@ -9,6 +9,7 @@ ghost use Rattle.gfx_model.specs.Steps.Change.{set_layout};
 ghost use Rattle.gfx_model.specs.Questions as asked;
 ghost use Rattle.gfx_model.specs.Views as view;
 ghost use Rattle.gfx_model.specs.After.{after};
+ghost use Rattle.gfx_model.specs.Limits.{max_live_bytes, max_live_objects};
 ghost use Rattle.gfx_table.specs.Used.{holds};
 ghost use Rattle.gfx_table.specs.Values.{kept_rows};
 ghost use Rattle.gfx_objects.specs.Children.{count_of};
@@ -150,8 +151,8 @@ impl Objects {
         requires unused { (answers self.old).used id ≡ false }
         requires new { IsNew detail }
         requires within { IsTrue (is_within (detail_of detail)) }
-        requires room { view.object_count (answers self.old) < 65536 }
-        requires bytes { view.live_bytes (answers self.old) + view.detail_bytes (detail_of detail) ≤ 2 ^ 28 }
+        requires room { view.object_count (answers self.old) < max_live_objects }
+        requires bytes { view.live_bytes (answers self.old) + view.detail_bytes (detail_of detail) ≤ max_live_bytes }
         requires spare { 1 ≤ self.old.spare }
         ensures step { answers self.new ≡ after (answers self.old) (creates id parent (detail_of detail)) }
         ensures spare { self.new.spare + 1 ≡ self.old.spare }
@@ -230,7 +231,7 @@ impl Objects {
     /// Where the bytes of a resource stand: none exactly where it isn't usable.
     pub fn window(&self, id: u64) -> Option<Window>
         ensures window { option_map window_of result ≡ view.window (answers self.now) id }
-        ensures ends { IfSome result (λ w. w.offset + w.length ≤ 2 ^ 28) }
+        ensures ends { IfSome result (λ w. w.offset + w.length ≤ max_live_bytes) }
     {
         match self.get(id)?.detail {
             Detail::Buffer { size, bound, .. } => self.bound_window(bound, size),
@@ -277,8 +278,8 @@ impl Objects {
         requires unused { holds self.old.used object.id ≡ false }
         requires row { IsRow object.id object }
         requires unbound { bound_of object.detail ≡ None }
-        requires few { map.len self.old.rows < 65536 }
-        requires small { bytes_in self.old.rows + view.detail_bytes (detail_of object.detail) ≤ 2 ^ 28 }
+        requires few { map.len self.old.rows < max_live_objects }
+        requires small { bytes_in self.old.rows + view.detail_bytes (detail_of object.detail) ≤ max_live_bytes }
         requires spare { 1 ≤ self.old.spare }
         ensures fresh { map.get self.old.rows object.id ≡ None }
         ensures rows { self.new.rows ≡ map.insert self.old.rows object.id object }

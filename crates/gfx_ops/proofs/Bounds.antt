@@ -17,6 +17,7 @@ use Rattle.gfx_model.specs.Checks.{broken}
 use Rattle.gfx_model.specs.Table.{value, is_positive, buffer_region_in, image_region_in, mixed_region_value, mixed_region_in}
 use Rattle.gfx_model.proofs.Covered.{unless_none}
 use Rattle.gfx_model.proofs.Lists.{all_along}
+use Rattle.gfx_model.specs.Limits.{max_extent, max_live_bytes}
 use Rattle.gfx_laws.specs.Lawful.{Passes, CommandPasses}
 use Rattle.gfx_laws.proofs.Lists.{all_behind, all_from_flat}
 use Rattle.gfx_ops.specs.declared.shape.Shape.{Shape}
@@ -49,12 +50,12 @@ window_length v x w e = by (v.live x) refl e
     by (Some o) live e = detail_length v x o.detail w e ∙ sym (ap (λ l. option_map_or (λ o. detail_size o.detail) l 0) live)
 
 -- a usable resource has at most as many bytes as may be live
-pub near_size : (v : View) (x : ℕ) (w : Window) → Some w ≡ window v x → w.offset + w.length ≤ 2 ^ 28 → size_of v x ≤ 2 ^ 28
+pub near_size : (v : View) (x : ℕ) (w : Window) → Some w ≡ window v x → w.offset + w.length ≤ max_live_bytes → size_of v x ≤ max_live_bytes
 near_size v x w e ends = let long = window_length v x w (sym e) in omega arith
 
 -- ---- regions
 
-pub near_regions : (v : View) (source target : ℕ) → size_of v source ≤ 2 ^ 28 → size_of v target ≤ 2 ^ 28 → (rs : List BufferRegion) →
+pub near_regions : (v : View) (source target : ℕ) → size_of v source ≤ max_live_bytes → size_of v target ≤ max_live_bytes → (rs : List BufferRegion) →
     AllByRecursion (Passes v) (flat_map (buffer_region_in source target) rs) → AllByRecursion IsNearRegion rs
 unfolding broken
 near_regions v source target a b rs passes =
@@ -66,7 +67,7 @@ near_regions v source target a b rs passes =
         let high = leb-true (r.to + r.size) (size_of v target) (unless_none _ _ e.1.0) in
         record { from = omega arith; to = omega arith }
 
-pub image_regions : (v : View) (source target : ℕ) → width_of v source ≤ 4096 → height_of v source ≤ 4096 → width_of v target ≤ 4096 → height_of v target ≤ 4096 →
+pub image_regions : (v : View) (source target : ℕ) → width_of v source ≤ max_extent → height_of v source ≤ max_extent → width_of v target ≤ max_extent → height_of v target ≤ max_extent →
     (rs : List ImageRegion) → AllByRecursion (Passes v) (flat_map (image_region_in source target) rs) → AllByRecursion IsImageRegion rs
 unfolding broken
 image_regions v source target a b c d rs passes =
@@ -82,7 +83,7 @@ image_regions v source target a b c d rs passes =
         let to_y = leb-true (r.to_y + r.height) (height_of v target) to.1 in
         record { from_x = omega arith; from_y = omega arith; to_x = omega arith; to_y = omega arith }
 
-pub mixed_regions : (v : View) (buffer image : ℕ) → size_of v buffer ≤ 2 ^ 28 → width_of v image ≤ 4096 → height_of v image ≤ 4096 → (rs : List MixedRegion) →
+pub mixed_regions : (v : View) (buffer image : ℕ) → size_of v buffer ≤ max_live_bytes → width_of v image ≤ max_extent → height_of v image ≤ max_extent → (rs : List MixedRegion) →
     AllByRecursion (Passes v) (flat_map (mixed_region_in buffer image) rs) → AllByRecursion IsMixedRegion rs
 unfolding broken
 mixed_regions v buffer image a b c rs passes =
@@ -98,23 +99,23 @@ mixed_regions v buffer image a b c rs passes =
 
 -- ---- commands
 
-pub copy_buffer_regions : (v : View) (cb source target : ℕ) (rs : List BufferRegion) → size_of v source ≤ 2 ^ 28 → size_of v target ≤ 2 ^ 28 →
+pub copy_buffer_regions : (v : View) (cb source target : ℕ) (rs : List BufferRegion) → size_of v source ≤ max_live_bytes → size_of v target ≤ max_live_bytes →
     CommandPasses v (CmdCopyBuffer cb source target rs) → AllByRecursion IsNearRegion rs
 copy_buffer_regions v cb source target rs a b p = near_regions v source target a b rs
     (all_behind (Passes v) (map (λ r. value (is_positive r.size)) rs) (flat_map (buffer_region_in source target) rs) p.1.1.1.1.1.1.1.1.1.1)
 
 pub copy_image_regions : (v : View) (cb source source_layout target target_layout : ℕ) (rs : List ImageRegion) →
-    width_of v source ≤ 4096 → height_of v source ≤ 4096 → width_of v target ≤ 4096 → height_of v target ≤ 4096 →
+    width_of v source ≤ max_extent → height_of v source ≤ max_extent → width_of v target ≤ max_extent → height_of v target ≤ max_extent →
     CommandPasses v (CmdCopyImage cb source source_layout target target_layout rs) → AllByRecursion IsImageRegion rs
 copy_image_regions v cb source source_layout target target_layout rs a b c d p = image_regions v source target a b c d rs
     (all_behind (Passes v) (map (λ r. value (is_positive r.width && is_positive r.height)) rs) (flat_map (image_region_in source target) rs) p.1.1.1.1.1.1.1.1.1.1.1.1)
 
-pub upload_regions : (v : View) (cb source target layout : ℕ) (rs : List MixedRegion) → size_of v source ≤ 2 ^ 28 → width_of v target ≤ 4096 → height_of v target ≤ 4096 →
+pub upload_regions : (v : View) (cb source target layout : ℕ) (rs : List MixedRegion) → size_of v source ≤ max_live_bytes → width_of v target ≤ max_extent → height_of v target ≤ max_extent →
     CommandPasses v (CmdCopyBufferToImage cb source target layout rs) → AllByRecursion IsMixedRegion rs
 upload_regions v cb source target layout rs a b c p = mixed_regions v source target a b c rs
     (all_behind (Passes v) (flat_map (mixed_region_value target) rs) (flat_map (mixed_region_in source target) rs) p.1.1.1.1.1.1.1.1.1.1.1)
 
-pub download_regions : (v : View) (cb source layout target : ℕ) (rs : List MixedRegion) → size_of v target ≤ 2 ^ 28 → width_of v source ≤ 4096 → height_of v source ≤ 4096 →
+pub download_regions : (v : View) (cb source layout target : ℕ) (rs : List MixedRegion) → size_of v target ≤ max_live_bytes → width_of v source ≤ max_extent → height_of v source ≤ max_extent →
     CommandPasses v (CmdCopyImageToBuffer cb source layout target rs) → AllByRecursion IsMixedRegion rs
 download_regions v cb source layout target rs a b c p = mixed_regions v target source a b c rs
     (all_behind (Passes v) (flat_map (mixed_region_value source) rs) (flat_map (mixed_region_in target source) rs) p.1.1.1.1.1.1.1.1.1.1.1)
@@ -131,8 +132,8 @@ update_begins v cb buffer offset bytes p = let ends = leb-true _ (size_of v buff
 
 -- ---- shapes
 
-pub wide_shape : (v : View) (image : ℕ) (s : Shape) → s ≡ shape_of v image → s.width ≤ 4096 → width_of v image ≤ 4096
-wide_shape v image s e wide = subst (λ n. n ≤ 4096) (ap (λ (s : Shape). s.width) e) wide
+pub wide_shape : (v : View) (image : ℕ) (s : Shape) → s ≡ shape_of v image → s.width ≤ max_extent → width_of v image ≤ max_extent
+wide_shape v image s e wide = subst (λ n. n ≤ max_extent) (ap (λ (s : Shape). s.width) e) wide
 
-pub tall_shape : (v : View) (image : ℕ) (s : Shape) → s ≡ shape_of v image → s.height ≤ 4096 → height_of v image ≤ 4096
-tall_shape v image s e tall = subst (λ n. n ≤ 4096) (ap (λ (s : Shape). s.height) e) tall
+pub tall_shape : (v : View) (image : ℕ) (s : Shape) → s ≡ shape_of v image → s.height ≤ max_extent → height_of v image ≤ max_extent
+tall_shape v image s e tall = subst (λ n. n ≤ max_extent) (ap (λ (s : Shape). s.height) e) tall

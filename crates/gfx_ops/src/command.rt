@@ -7,12 +7,36 @@ ghost use Rattle.gfx_laws.specs.Laws.{is_command};
 ghost use Rattle.gfx_objects.specs.Objects.{answers};
 ghost use Rattle.gfx_ops.specs.Operations.{ops_of_command};
 
-use crate::copies::{copy_buffer, copy_buffer_to_image, copy_image, copy_image_to_buffer};
-use crate::fills::{clear_image, fill_buffer, update_buffer};
+use crate::copies::{
+    cmd_copy_buffer, cmd_copy_buffer_to_image, cmd_copy_image, cmd_copy_image_to_buffer,
+};
+use crate::fills::{cmd_clear_color_image, cmd_fill_buffer, cmd_update_buffer};
 use crate::region::{Layouts, append_each};
 use gfx_objects::Objects;
-use gfx_types::{Barriers, Call, OpList, WantMemory};
+use gfx_types::{Barriers, Call, OpList, WantMemory, argument, calls};
 use std::alloc::Global;
+
+/// A field of a row as its function takes it: a list is lent whole.
+macro_rules! lent {
+    (records $field:ident) => { $field };
+    ($mark:ident $field:ident) => { argument!($mark $field) };
+}
+
+/// The operations of a command by its row. An update keeps a copy of its bytes.
+macro_rules! appended {
+    (@cmd_update_buffer($alloc:expr, $objects:expr, $ops:expr; $($mark:ident $field:ident),+)) => {
+        cmd_update_buffer($alloc, $(lent!($mark $field)),+, $objects, $ops)
+    };
+    (@$row:ident($alloc:expr, $objects:expr, $ops:expr; $($mark:ident $field:ident),+)) => {
+        $row($(lent!($mark $field)),+, $objects, $ops)
+    };
+    ($alloc:expr, $call:expr, $objects:expr, $ops:expr; devices $devices:tt memory $memory:tt pools $pools:tt commands { $($id:literal $name:ident $row:ident($($field:ident: $mark:ident),+);)+ } signals $signals:tt swapchains $swapchains:tt) => {
+        match $call {
+            $(Call::$name { $($field),+ } => appended!(@$row($alloc, $objects, $ops; $($mark $field),+)),)+
+            _ => unreachable!(),
+        }
+    };
+}
 
 /// Appends the operations of a recorded command to a list. The command breaks no check of its row but perhaps that its
 /// buffer is recording and that there is room. For want of memory the list begins with what it was.
@@ -28,76 +52,12 @@ pub fn append_ops(
     ensures ok { OnOk result (ops.new ≡ ops.old ++ ops_of_command (answers objects.now) (event_of_call call.now)) }
     ensures err { OnErr result (take (length ops.old) ops.new ≡ ops.old) }
 {
-    match call {
-        Call::CmdPipelineBarrier { cb, barriers } => {
-            pipeline_barrier(*cb, barriers, objects, ops)
-        }
-        Call::CmdFillBuffer {
-            cb,
-            buffer,
-            offset,
-            size,
-            word,
-        } => fill_buffer(*cb, *buffer, *offset, *size, *word, objects, ops),
-        Call::CmdUpdateBuffer {
-            cb,
-            buffer,
-            offset,
-            bytes,
-        } => update_buffer(alloc, *cb, *buffer, *offset, bytes, objects, ops),
-        Call::CmdCopyBuffer {
-            cb,
-            source,
-            target,
-            regions,
-        } => copy_buffer(*cb, *source, *target, regions, objects, ops),
-        Call::CmdCopyImage {
-            cb,
-            source,
-            source_layout,
-            target,
-            target_layout,
-            regions,
-        } => copy_image(
-            *cb,
-            *source,
-            *source_layout,
-            *target,
-            *target_layout,
-            regions,
-            objects,
-            ops,
-        ),
-        Call::CmdCopyBufferToImage {
-            cb,
-            source,
-            target,
-            layout,
-            regions,
-        } => copy_buffer_to_image(*cb, *source, *target, *layout, regions, objects, ops),
-        Call::CmdCopyImageToBuffer {
-            cb,
-            source,
-            layout,
-            target,
-            regions,
-        } => copy_image_to_buffer(*cb, *source, *layout, *target, regions, objects, ops),
-        Call::CmdClearColorImage {
-            cb,
-            image,
-            layout,
-            c0,
-            c1,
-            c2,
-            c3,
-        } => clear_image(*cb, *image, *layout, *c0, *c1, *c2, *c3, objects, ops),
-        _ => unreachable!(),
-    }
+    calls!(appended, alloc, call, objects, ops)
 }
 
 // A barrier sets the layouts of its images.
 #[tactic(auto, unfolding(crate::specs::Operations::ops_of_command))]
-fn pipeline_barrier(
+fn cmd_pipeline_barrier(
     _cb: u64,
     barriers: &Barriers,
     _objects: &Objects,

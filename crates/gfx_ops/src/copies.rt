@@ -11,7 +11,7 @@ use gfx_objects::Objects;
 use gfx_types::{BufferRegions, ImageRegions, MixedRegions, OpList, WantMemory};
 
 /// Regions from one buffer to another.
-pub(crate) fn copy_buffer(
+pub(crate) fn cmd_copy_buffer(
     _cb: u64,
     source: u64,
     target: u64,
@@ -37,7 +37,7 @@ pub(crate) fn copy_buffer(
 }
 
 /// Regions from one image to another.
-pub(crate) fn copy_image(
+pub(crate) fn cmd_copy_image(
     _cb: u64,
     source: u64,
     _source_layout: u32,
@@ -69,7 +69,7 @@ pub(crate) fn copy_image(
 }
 
 /// Regions from a buffer to an image.
-pub(crate) fn copy_buffer_to_image(
+pub(crate) fn cmd_copy_buffer_to_image(
     _cb: u64,
     source: u64,
     target: u64,
@@ -98,7 +98,7 @@ pub(crate) fn copy_buffer_to_image(
 }
 
 /// Regions from an image to a buffer.
-pub(crate) fn copy_image_to_buffer(
+pub(crate) fn cmd_copy_image_to_buffer(
     _cb: u64,
     source: u64,
     _layout: u32,

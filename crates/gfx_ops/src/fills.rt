@@ -12,7 +12,7 @@ use gfx_types::{Op, OpList, Piece, WantMemory};
 use std::alloc::Global;
 
 /// A fill of a buffer with a word; WHOLE_SIZE goes to the end of the buffer, rounded down to whole words.
-pub(crate) fn fill_buffer(
+pub(crate) fn cmd_fill_buffer(
     _cb: u64,
     buffer: u64,
     offset: u64,
@@ -56,7 +56,7 @@ fn fill_size(buffer_size: u64, offset: u64, size: u64) -> u64
 }
 
 /// An update of a buffer with bytes.
-pub(crate) fn update_buffer(
+pub(crate) fn cmd_update_buffer(
     alloc: Global,
     _cb: u64,
     buffer: u64,
@@ -91,7 +91,7 @@ pub(crate) fn update_op(window: Window, from: u64, bytes: Piece) -> Op
 }
 
 /// A clear of an image: one fill of all its bytes.
-pub(crate) fn clear_image(
+pub(crate) fn cmd_clear_color_image(
     _cb: u64,
     image: u64,
     _layout: u32,

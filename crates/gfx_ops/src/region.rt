@@ -3,6 +3,7 @@ ghost use Rattle.std.specs.Prelude.{◌≡◌, ◌≤◌, ◌^◌, ◌++◌, len
 ghost use Rattle.std.specs.List.{AllByRecursion};
 ghost use Rattle.gfx_types.specs.declared.op.Op.{Op};
 ghost use Rattle.gfx_model.specs.Checks as checks;
+ghost use Rattle.gfx_model.specs.Limits.{max_extent, max_live_bytes};
 ghost use Rattle.gfx_objects.specs.Object.{window_of};
 ghost use Rattle.gfx_ops.specs.Operations.{barrier_op, buffer_op, image_op, upload_op, download_op};
 ghost use Rattle.gfx_ops.specs.Regions.{IsNearRegion, IsImageRegion, IsMixedRegion};
@@ -61,8 +62,8 @@ impl MakesOp<Barrier> for Layouts {
 pub(crate) struct BufferCopies {
     pub source: Window,
     pub target: Window,
-    ghost near_source: { source.offset ≤ 2 ^ 28 },
-    ghost near_target: { target.offset ≤ 2 ^ 28 },
+    ghost near_source: { source.offset ≤ max_live_bytes },
+    ghost near_target: { target.offset ≤ max_live_bytes },
 }
 
 impl MakesOp<BufferRegion> for BufferCopies {
@@ -91,10 +92,10 @@ pub(crate) struct ImageCopies {
     pub target: Window,
     pub source_shape: Shape,
     pub target_shape: Shape,
-    ghost near_source: { source.offset ≤ 2 ^ 28 },
-    ghost near_target: { target.offset ≤ 2 ^ 28 },
-    ghost wide_source: { source_shape.width ≤ 4096 },
-    ghost wide_target: { target_shape.width ≤ 4096 },
+    ghost near_source: { source.offset ≤ max_live_bytes },
+    ghost near_target: { target.offset ≤ max_live_bytes },
+    ghost wide_source: { source_shape.width ≤ max_extent },
+    ghost wide_target: { target_shape.width ≤ max_extent },
     ghost small_source: { source_shape.texel ≤ 4 },
     ghost small_target: { target_shape.texel ≤ 4 },
 }
@@ -126,9 +127,9 @@ pub(crate) struct Uploads {
     pub buffer: Window,
     pub image: Window,
     pub shape: Shape,
-    ghost near_buffer: { buffer.offset ≤ 2 ^ 28 },
-    ghost near_image: { image.offset ≤ 2 ^ 28 },
-    ghost wide: { shape.width ≤ 4096 },
+    ghost near_buffer: { buffer.offset ≤ max_live_bytes },
+    ghost near_image: { image.offset ≤ max_live_bytes },
+    ghost wide: { shape.width ≤ max_extent },
     ghost small: { shape.texel ≤ 4 },
 }
 
@@ -158,9 +159,9 @@ pub(crate) struct Downloads {
     pub image: Window,
     pub buffer: Window,
     pub shape: Shape,
-    ghost near_image: { image.offset ≤ 2 ^ 28 },
-    ghost near_buffer: { buffer.offset ≤ 2 ^ 28 },
-    ghost wide: { shape.width ≤ 4096 },
+    ghost near_image: { image.offset ≤ max_live_bytes },
+    ghost near_buffer: { buffer.offset ≤ max_live_bytes },
+    ghost wide: { shape.width ≤ max_extent },
     ghost small: { shape.texel ≤ 4 },
 }
 

@@ -1,6 +1,7 @@
 //! How the texels of an image lie.
 ghost use Rattle.std.specs.Prelude.{◌≡◌, ◌+◌, ◌*◌, ◌≤◌, ◌^◌};
 ghost use Rattle.gfx_model.specs.Questions as asked;
+ghost use Rattle.gfx_model.specs.Limits.{max_extent};
 ghost use Rattle.gfx_objects.specs.Objects.{answers};
 ghost use Rattle.gfx_ops.specs.Operations as operations;
 
@@ -25,8 +26,8 @@ const NO_TEXELS: Shape = Shape {
 /// How the texels of an image lie; a shape without texels where the id is of none.
 pub fn shape_of(objects: &Objects, image: u64) -> Shape
     ensures shape { result ≡ operations.shape_of (answers objects.now) image }
-    ensures wide { result.width ≤ 4096 }
-    ensures tall { result.height ≤ 4096 }
+    ensures wide { result.width ≤ max_extent }
+    ensures tall { result.height ≤ max_extent }
     ensures small { result.texel ≤ 4 }
 {
     let Some(object) = objects.get(image) else {
@@ -87,9 +88,9 @@ impl Shape {
 
     /// Where a texel stands in the window of the image, in bytes.
     pub(crate) fn texel_at(self, x: u32, y: u32) -> u64
-        requires column { x ≤ 4096 }
-        requires row { y ≤ 4096 }
-        requires wide { self.width ≤ 4096 }
+        requires column { x ≤ max_extent }
+        requires row { y ≤ max_extent }
+        requires wide { self.width ≤ max_extent }
         requires small { self.texel ≤ 4 }
         ensures place { result ≡ texel_in self x y }
         ensures near { result ≤ 2 ^ 27 }

@@ -4,7 +4,7 @@ ghost use Rattle.gfx_model.specs.Views.{detail_bytes};
 ghost use Rattle.gfx_objects.specs.Object.{detail_of, is_within, IsNew};
 
 use crate::Shape;
-use crate::fills::{clear_image, fill_op, update_op};
+use crate::fills::{cmd_clear_color_image, fill_op, update_op};
 use crate::region::{BufferCopies, Downloads, ImageCopies, Layouts, MakesOp, Uploads, append_each};
 use gfx_objects::{Detail, Objects, Window};
 use gfx_types::{Barrier, BufferRegion, ImageRegion, Kind, MixedRegion, Op, OpList, Piece, Place};
@@ -346,7 +346,7 @@ fn a_clear_repeats_the_word_of_the_format(rt: HostRuntime) -> Result<(), Fail> {
     ] {
         let objects = with_image(rt.alloc(), format)?;
         let mut ops = OpList::of(Vec::new(rt.alloc()));
-        clear_image(9, 4, 7, 0x1234, 0x102, 3, 0x5504, &objects, &mut ops)?;
+        cmd_clear_color_image(9, 4, 7, 0x1234, 0x102, 3, 0x5504, &objects, &mut ops)?;
         assert_eq!(rt; ops.items().len(), 1);
         assert_eq!(rt;
             ops.items().first().and_then(filled),

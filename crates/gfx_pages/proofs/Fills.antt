@@ -8,8 +8,9 @@ use Rattle.gfx_pages.specs.declared.page.Page.{Page}
 use Rattle.gfx_pages.specs.declared.bytes.Span.{Span}
 use Rattle.gfx_pages.specs.Page.{page_bytes, WellPaged}
 use Rattle.gfx_pages.specs.Used.{IsZero, IsUsed}
-use Rattle.gfx_pages.specs.Fills.{page_fill, fills}
+use Rattle.gfx_pages.specs.Fills.{fills}
 use Rattle.gfx_pages.proofs.Paged.{split_at, page_size, page_small, page_end}
+use Rattle.gfx_pages.proofs.Sized.{page_fill, fills_are}
 use Rattle.gfx_pages.proofs.Scans.{span_found, span_absent, span_is}
 
 -- a byte of page i
@@ -149,10 +150,10 @@ found_first s f n after first h (suc k) l =
     ∙ ap (found_from s f n after) (let e : k + 1 ≡ suc k = omega arith in e)
 
 pub find_fills : (v : List ℕ) (after : ℕ) → find (λ span. nat_le after span.at) (fills v) ≡ found_from 65536 (λ i. get_or v i 0) (length v) after 0
-unfolding fills
 find_fills v after =
     let e : (length v + 65535) / 65536 ≡ (length v + 65535) / 65536 - 0 = omega arith in
-    ap (λ m. find (λ span. nat_le after span.at) (filter_map (page_fill 65536 (λ i. get_or v i 0) (length v)) (range_with_len 0 m))) e
+    ap (find (λ (span : Span). nat_le after span.at)) (fills_are v)
+    ∙ ap (λ m. find (λ span. nat_le after span.at) (filter_map (page_fill 65536 (λ i. get_or v i 0) (length v)) (range_with_len 0 m))) e
 
 -- how many pages there are
 pub page_count : (s : ℕ) (ps : List Page) (n : ℕ) → 0 < s → WellPaged s ps n → (n + (s - 1)) / s ≡ length ps

@@ -4,3 +4,4 @@ pub mod Paged
 pub mod Refilled
 pub mod Repeated
 pub mod Scans
+pub mod Sized

@@ -1,13 +1,16 @@
 -- The fills of bytes, written over zeros, give them back.
-use Rattle.std.proofs.Common.{◌≡◌, ℕ, zero, suc, ◌+◌, ◌-◌, ◌*◌, ◌/◌, ◌<◌, ◌≤◌, ◌⊎◌, inl, inr, List, [], ◌∷◌, ◌++◌, Option, Some, None, length, take, drop, min, get_or, slice_range, replicate, refl, ap, sym, ◌∙◌, arith}
+use Rattle.std.proofs.Common.{◌≡◌, ℕ, zero, suc, ◌+◌, ◌-◌, ◌*◌, ◌/◌, ◌<◌, ◌≤◌, ◌⊎◌, inl, inr, List, [], ◌∷◌, ◌++◌, Option, Some, None, length, take, drop, min, get_or, slice_range, replicate, refl, ap, sym, subst, ◌∙◌, arith}
+use Rattle.std.specs.Prelude.{All}
 use Rattle.std.specs.List.{AllByRecursion, filter_map, range_with_len, cons_option}
 use Rattle.std.proofs.Math.Nat.{eq-zero-or-pos}
 use Rattle.std.proofs.lemmas.Bool.{cases_lt}
 use Rattle.std.proofs.lemmas.List.{same_lists, length-replicate, get_or-replicate, get_or_append_left, get_or-append-add, get_or_default, get_or-take, get_or-drop, get_or-append_right, append_assoc, length-take-le, length-append, length-drop}
 use Rattle.std.proofs.lemmas.List.Edits.{length-between, get_or-between}
+use Rattle.gfx_model.specs.Section.{nonzero}
 use Rattle.gfx_pages.specs.declared.bytes.Span.{Span}
 use Rattle.gfx_pages.specs.Lists.{overwrite}
-use Rattle.gfx_pages.specs.Fills.{page_fill, fills_of, fills, refilled, IsSpanBelow, FillsGive, nonzero, span_of}
+use Rattle.gfx_pages.specs.Fills.{fills, refilled, IsSpanBelow, FillsGive}
+use Rattle.gfx_pages.proofs.Sized.{span_of, page_fill, fills_of, fills_are}
 use Rattle.gfx_pages.proofs.Scans.{HasSpan, has_span, span_is}
 
 abbrev pub IsCovered : ℕ → Span → Type 0
@@ -177,8 +180,8 @@ all_by_index P (x ∷ xs) all zero d h = all.0
 all_by_index P (x ∷ xs) all (suc k) d h = all_by_index P xs all.1 k d (omega arith)
 
 pub fills_give : (bytes : List ℕ) → FillsGive bytes
-unfolding fills
 fills_give bytes = record {
-  spans = all_by_index (IsSpanBelow (length bytes)) (fills_of 65536 (λ i. get_or bytes i 0) (length bytes)) (fills_below 65536 (λ i. get_or bytes i 0) (length bytes));
-  same = refilled_same 65536 bytes (omega arith);
+  spans = subst (λ spans. All (IsSpanBelow (length bytes)) spans) (sym (fills_are bytes))
+      (all_by_index (IsSpanBelow (length bytes)) (fills_of 65536 (λ i. get_or bytes i 0) (length bytes)) (fills_below 65536 (λ i. get_or bytes i 0) (length bytes)));
+  same = ap (λ spans. refilled bytes spans (replicate (length bytes) 0)) (fills_are bytes) ∙ refilled_same 65536 bytes (omega arith);
 }

@@ -3,9 +3,10 @@ use Rattle.std.proofs.Common.{◌≡◌, ℕ, zero, suc, ◌+◌, ◌-◌, ◌<�
 use Rattle.std.proofs.Math.Nat.{eq-zero-or-pos}
 use Rattle.std.proofs.lemmas.Bool.{cases_lt, eq-eqb, ne_eqb}
 use Rattle.std.proofs.lemmas.List.Edits.{get_or-between}
+use Rattle.gfx_model.specs.Section.{last_of, nonzero}
 use Rattle.gfx_pages.specs.Used.{IsZero}
 use Rattle.gfx_pages.specs.declared.bytes.Span.{Span}
-use Rattle.gfx_pages.specs.Fills.{last_of, span_of, nonzero}
+use Rattle.gfx_pages.proofs.Sized.{span_of}
 
 nonzero_past : (f : ℕ → ℕ) (at n : ℕ) → f at ≡ 0 → nonzero f at (suc n) ≡ nonzero f (at + 1) n
 nonzero_past f at n e = ap (λ b. cond (not b) (at ∷ nonzero f (at + 1) n) (nonzero f (at + 1) n)) (eq-eqb (f at) 0 e)

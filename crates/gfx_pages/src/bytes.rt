@@ -1,7 +1,8 @@
 // A list of pages.
-ghost use Rattle.std.specs.Prelude.{◌≡◌, ℕ, ◌+◌, ◌*◌, ◌%◌, ◌<◌, ◌≤◌, List, length, take, drop, find, nat_le, replicate, OnOk, OnErr, IfOk, slice_index, slice_range};
+ghost use Rattle.std.specs.Prelude.{◌≡◌, ℕ, ◌+◌, ◌*◌, ◌%◌, ◌<◌, ◌≤◌, List, length, take, drop, find, nat_le, option_map, replicate, OnOk, OnErr, IfOk, slice_index, slice_range};
 ghost use Rattle.gfx_pages.specs.Lists.{KeepsOutside, overwrite};
-ghost use Rattle.gfx_pages.specs.Fills.{fills, page_fill};
+ghost use Rattle.gfx_model.specs.Section.{page_fill};
+ghost use Rattle.gfx_pages.specs.Fills.{span_at, fills};
 ghost use lib.Seq.{paste};
 
 mod copy;
@@ -123,7 +124,7 @@ impl Bytes {
     // The fill of one page.
     fn page_fill(&self, index: usize) -> Option<Span>
         requires { PAGE * index < length self.now }
-        ensures { result ≡ page_fill PAGE (slice_index self.now) (length self.now) index }
+        ensures { result ≡ option_map span_at (page_fill (slice_index self.now) (length self.now) index) }
     {
         let _length = self.length();
         let used = self.pages[index].used()?;

@@ -1,7 +1,9 @@
 //! Whether a check is broken.
 
-ghost use Rattle.std.specs.Prelude.{◌≡◌, ◌==◌, false, map};
+ghost use Rattle.std.specs.Prelude.{◌≡◌, ◌+◌, ◌==◌, ◌||◌, nat_le, if◌then◌else◌, is_some, false, map};
 ghost use Rattle.std.specs.Option.{option_map_or};
+ghost use Rattle.gfx_model.specs.Questions as asked;
+ghost use Rattle.gfx_model.specs.Views as views;
 ghost use Rattle.gfx_model.specs.Checks as words;
 ghost use Rattle.gfx_rules.specs.Checks.{check_of};
 
@@ -14,6 +16,7 @@ use crate::derived::{
 };
 use crate::ids::{images_fault, new_fault, queue_fault, room_fault};
 use gfx_types::Fault;
+use gfx_types::limits::MAX_FRAME;
 
 fn is_begun<A: Answers>(answers: &A, frame: u64) -> bool
     ensures { result ≡ option_map_or (λ n. n == frame) (A.view answers.now).section false }
@@ -24,127 +27,115 @@ fn is_begun<A: Answers>(answers: &A, frame: u64) -> bool
     }
 }
 
+/// Whether a device has no children but its queue.
+fn has_queue_alone<A: Answers>(answers: &A, device: u64) -> bool
+    ensures { let v = A.view answers.now in
+        result ≡ (views.children v device == (if is_some (views.queue_of v device) then 1 else 0)) }
+{
+    let queues = if answers.queue_of(device).is_some() {
+        1
+    } else {
+        0
+    };
+    answers.children(device) == queues
+}
+
+/// Whether an object lies in a memory, from an offset on.
+fn lies_in<A: Answers>(answers: &A, id: u64, memory: u64, offset: u64) -> bool
+    ensures { let v = A.view answers.now in
+        result ≡ nat_le (offset + views.size_of v id) (views.size_of v memory) }
+{
+    u128::from(offset) + u128::from(answers.size_of(id)) <= u128::from(answers.size_of(memory))
+}
+
+/// Whether a command buffer may be begun: it is initial, or its pool lets it be reset.
+fn may_begin<A: Answers>(answers: &A, cb: u64) -> bool
+    ensures { let v = A.view answers.now in
+        result ≡ (words.is_initial (v.buffer cb).state || asked.has_bit (views.pool_flags v cb) 2) }
+{
+    answers.is_initial(cb) || has_bit(pool_flags(answers, cb), 2)
+}
+
+/// Whether a memory may be filled: it is mapped, or a section is open.
+fn may_fill<A: Answers>(answers: &A, memory: u64) -> bool
+    ensures { let v = A.view answers.now in result ≡ (is_some v.section || is_some (v.mapped memory)) }
+{
+    answers.section().is_some() || answers.mapped(memory).is_some()
+}
+
+/// A row for each check: what holds unless it is broken, and its fault. What has faults of its own stands behind them.
+macro_rules! held {
+    ($check:expr, { $($other:tt)* }; $($name:ident $(($($field:ident),+))? if $holds:expr, $fault:ident;)+) => {
+        match $check {
+            $(Check::$name $(($($field),+))? => unless($holds, Fault::$fault),)+
+            $($other)*
+        }
+    };
+}
+
 /// The fault of a check, where it is broken.
 #[tactic(auto, unfolding(gfx_model::specs::Checks::broken))]
 pub fn broken<A: Answers>(answers: &A, check: Check<'_>) -> Option<Fault>
     ensures { result ≡ words.broken (A.view answers.now) (check_of check.entry) }
 {
-    match check {
-        Check::Must(fault, holds) => unless(holds, fault),
-        Check::Outside => unless(answers.section().is_none(), Fault::StateOrder),
-        Check::Inside => unless(answers.section().is_some(), Fault::StateOrder),
-        Check::AtStart => unless(answers.is_empty(), Fault::StateOrder),
-        Check::EndsFrame(frame) => unless(is_begun(answers, frame), Fault::BadValue),
-        Check::Live(kind, id) => unless(answers.is_live(kind, id), Fault::NotLive),
-        Check::Of(id, parent) => unless(answers.parent_of(id) == parent, Fault::WrongParent),
-        Check::Near(id, other) => unless(
-            device_of(answers, id) == device_of(answers, other),
-            Fault::WrongParent,
-        ),
-        Check::New(id) => new_fault(answers, id),
-        Check::Room(more) => room_fault(answers, more),
-        Check::RoomFor(more) => unless(has_room_for(answers, more), Fault::LimitReached),
-        Check::Childless(id) => unless(answers.children(id) == 0, Fault::HasChildren),
-        Check::ChildlessButQueue(id) => {
-            let queues = if answers.queue_of(id).is_some() { 1 } else { 0 };
-            unless(answers.children(id) == queues, Fault::HasChildren)
-        }
-        Check::BareSurface(id) => unless(!answers.has_swapchain(id), Fault::HasChildren),
-        Check::FreeSurface(id) => unless(!answers.has_swapchain(id), Fault::SwapState),
-        Check::SameInstance(id, other) => unless(
-            answers.parent_of(id) == answers.parent_of(other),
-            Fault::WrongParent,
-        ),
-        Check::TheQueue(device, queue) => queue_fault(answers, device, queue),
-        Check::TheImages(swapchain, images) => images_fault(answers, swapchain, images),
-        Check::BeginsIn(id, offset) => unless(offset < answers.size_of(id), Fault::OutOfRange),
-        Check::EndsIn(id, end) => unless(end <= u128::from(answers.size_of(id)), Fault::OutOfRange),
-        Check::RestsIn(id, memory, offset) => unless(
-            u128::from(offset) + u128::from(answers.size_of(id))
-                <= u128::from(answers.size_of(memory)),
-            Fault::OutOfRange,
-        ),
-        Check::Unmapped(memory) => unless(answers.mapped(memory).is_none(), Fault::MapState),
-        Check::IsMapped(memory) => unless(answers.mapped(memory).is_some(), Fault::MapState),
-        Check::Unbound(id) => unless(!answers.is_bound(id), Fault::AlreadyBound),
-        Check::Usable(id) => unless(answers.is_usable(id), Fault::NotBound),
-        Check::MayUse(id, bit) => unless(has_bit(answers.usage_of(id), bit), Fault::UsageMissing),
-        Check::Recording(cb) => unless(answers.is_recording(cb), Fault::CommandState),
-        Check::NotRecording(cb) => unless(!answers.is_recording(cb), Fault::CommandState),
-        Check::MayBegin(cb) => unless(
-            answers.is_initial(cb) || has_bit(pool_flags(answers, cb), 2),
-            Fault::PoolRule,
-        ),
-        Check::MayReset(cb) => unless(has_bit(pool_flags(answers, cb), 2), Fault::PoolRule),
-        Check::Fits(more) => unless(has_room_to_keep(answers, more), Fault::LimitReached),
-        Check::SameTexel(id, other) => unless(
-            texel(answers, id) == texel(answers, other),
-            Fault::FormatDiffers,
-        ),
-        Check::UintFormat(image) => unless(
-            matches!(answers.format_at(image), 13 | 41 | 98),
-            Fault::FormatDiffers,
-        ),
-        Check::TexelDivides(image, offset) => unless(
-            is_texel_multiple(answers, image, offset),
-            Fault::BadValue,
-        ),
-        Check::AreaIn(image, x, y, width, height) => unless(
-            is_area_in(answers, image, x, y, width, height),
-            Fault::OutOfRange,
-        ),
-        Check::RowsIn(buffer, image, offset, row, width, height) => {
-            let end = rows_end(offset, row, width, height, texel(answers, image));
-            unless(
-                end <= u128::from(answers.size_of(buffer)),
-                Fault::OutOfRange,
-            )
-        }
-        Check::TellsAll(is_so, ids) => unless(
-            same_truth(is_so, all_signalled(answers, ids)),
-            Fault::ResultDiffers,
-        ),
-        Check::TellsSome(is_so, ids) => unless(
-            same_truth(is_so, some_signalled(answers, ids)),
-            Fault::ResultDiffers,
-        ),
-        Check::Unsignalled(id) => unless(!answers.is_signalled(id), Fault::SignalState),
-        Check::IndexIn(swapchain, index) => unless(
-            index < answers.images_in(swapchain),
-            Fault::OutOfRange,
-        ),
-        Check::IsAcquired(swapchain, index) => unless(
-            answers.is_acquired(swapchain, index),
-            Fault::SwapState,
-        ),
-        Check::NotAcquired(swapchain, index) => unless(
-            !answers.is_acquired(swapchain, index),
-            Fault::SwapState,
-        ),
-        Check::Presentable(swapchain, index) => unless(
-            is_presentable(answers, swapchain, index),
-            Fault::LayoutDiffers,
-        ),
-        Check::AllAcquired(swapchain) => {
-            unless(all_acquired(answers, swapchain), Fault::ResultDiffers)
-        }
-        Check::FrameRoom => unless(answers.next_frame() <= 1 << 62, Fault::LimitReached),
-        Check::MayFill(memory) => unless(
-            answers.section().is_some() || answers.mapped(memory).is_some(),
-            Fault::MapState,
-        ),
-        Check::FillIn(memory, offset, length) => unless(
-            is_fill_in(answers, memory, offset, length),
-            Fault::OutOfRange,
-        ),
-        Check::ImageBytes(image, length) => {
-            unless(length == answers.wanted_by(image), Fault::BadValue)
-        }
-        Check::OneEach(swapchain, length) => unless(
-            length == u64::from(answers.images_in(swapchain)),
-            Fault::BadValue,
-        ),
-    }
+    held!(
+        check,
+        {
+            Check::Must(fault, holds) => unless(holds, fault),
+            Check::New(id) => new_fault(answers, id),
+            Check::Room(more) => room_fault(answers, more),
+            Check::TheQueue(device, queue) => queue_fault(answers, device, queue),
+            Check::TheImages(swapchain, images) => images_fault(answers, swapchain, images),
+        };
+        Outside if answers.section().is_none(), StateOrder;
+        Inside if answers.section().is_some(), StateOrder;
+        AtStart if answers.is_empty(), StateOrder;
+        EndsFrame(frame) if is_begun(answers, frame), BadValue;
+        Live(kind, id) if answers.is_live(kind, id), NotLive;
+        Of(id, parent) if answers.parent_of(id) == parent, WrongParent;
+        Near(id, other) if device_of(answers, id) == device_of(answers, other), WrongParent;
+        RoomFor(more) if has_room_for(answers, more), LimitReached;
+        Childless(id) if answers.children(id) == 0, HasChildren;
+        ChildlessButQueue(id) if has_queue_alone(answers, id), HasChildren;
+        BareSurface(id) if !answers.has_swapchain(id), HasChildren;
+        FreeSurface(id) if !answers.has_swapchain(id), SwapState;
+        SameInstance(id, other) if answers.parent_of(id) == answers.parent_of(other), WrongParent;
+        BeginsIn(id, offset) if offset < answers.size_of(id), OutOfRange;
+        EndsIn(id, end) if end <= u128::from(answers.size_of(id)), OutOfRange;
+        RestsIn(id, memory, offset) if lies_in(answers, id, memory, offset), OutOfRange;
+        Unmapped(memory) if answers.mapped(memory).is_none(), MapState;
+        IsMapped(memory) if answers.mapped(memory).is_some(), MapState;
+        Unbound(id) if !answers.is_bound(id), AlreadyBound;
+        Usable(id) if answers.is_usable(id), NotBound;
+        MayUse(id, bit) if has_bit(answers.usage_of(id), bit), UsageMissing;
+        Recording(cb) if answers.is_recording(cb), CommandState;
+        NotRecording(cb) if !answers.is_recording(cb), CommandState;
+        MayBegin(cb) if may_begin(answers, cb), PoolRule;
+        MayReset(cb) if has_bit(pool_flags(answers, cb), 2), PoolRule;
+        Fits(more) if has_room_to_keep(answers, more), LimitReached;
+        SameTexel(id, other) if texel(answers, id) == texel(answers, other), FormatDiffers;
+        UintFormat(image) if matches!(answers.format_at(image), 13 | 41 | 98), FormatDiffers;
+        TexelDivides(image, offset) if is_texel_multiple(answers, image, offset), BadValue;
+        AreaIn(image, x, y, width, height)
+            if is_area_in(answers, image, x, y, width, height), OutOfRange;
+        RowsIn(buffer, image, offset, row, width, height)
+            if rows_end(offset, row, width, height, texel(answers, image))
+                <= u128::from(answers.size_of(buffer)), OutOfRange;
+        TellsAll(is_so, ids) if same_truth(is_so, all_signalled(answers, ids)), ResultDiffers;
+        TellsSome(is_so, ids) if same_truth(is_so, some_signalled(answers, ids)), ResultDiffers;
+        Unsignalled(id) if !answers.is_signalled(id), SignalState;
+        IndexIn(swapchain, index) if index < answers.images_in(swapchain), OutOfRange;
+        IsAcquired(swapchain, index) if answers.is_acquired(swapchain, index), SwapState;
+        NotAcquired(swapchain, index) if !answers.is_acquired(swapchain, index), SwapState;
+        Presentable(swapchain, index) if is_presentable(answers, swapchain, index), LayoutDiffers;
+        AllAcquired(swapchain) if all_acquired(answers, swapchain), ResultDiffers;
+        FrameRoom if answers.next_frame() <= MAX_FRAME, LimitReached;
+        MayFill(memory) if may_fill(answers, memory), MapState;
+        FillIn(memory, offset, length) if is_fill_in(answers, memory, offset, length), OutOfRange;
+        ImageBytes(image, length) if length == answers.wanted_by(image), BadValue;
+        OneEach(swapchain, length)
+            if length == u64::from(answers.images_in(swapchain)), BadValue;
+    )
 }
 
 /// The fault of the first broken check.

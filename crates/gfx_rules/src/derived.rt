@@ -7,8 +7,10 @@ ghost use Rattle.gfx_model.specs.Questions as asked;
 ghost use Rattle.gfx_model.specs.Views as views;
 ghost use Rattle.gfx_model.specs.Checks as words;
 ghost use Rattle.gfx_model.specs.Questions.{range_of};
+ghost use Rattle.gfx_model.specs.Limits.{max_live_bytes, max_kept_commands, max_kept_bytes};
 
 use crate::answers::Answers;
+use gfx_types::limits::{MAX_KEPT_BYTES, MAX_KEPT_COMMANDS, MAX_LIVE_BYTES};
 use gfx_types::{Format, Kind, MapRange};
 
 fn climb<A: Answers>(answers: &A, times: u32, id: u64) -> u64
@@ -129,18 +131,18 @@ pub fn rows_end(offset: u64, row: u32, width: u32, height: u32, size: u64) -> u1
 
 /// Whether so many more bytes are not too many.
 pub fn has_room_for<A: Answers>(answers: &A, more: u128) -> bool
-    ensures { result ≡ nat_le (views.live_bytes (A.view answers.now) + more) (2 ^ 28) }
+    ensures { result ≡ nat_le (views.live_bytes (A.view answers.now) + more) max_live_bytes }
 {
-    u128::from(answers.live_bytes()).saturating_add(more) <= 1 << 28
+    u128::from(answers.live_bytes()).saturating_add(more) <= u128::from(MAX_LIVE_BYTES)
 }
 
 /// Whether one more command, with so many bytes of fields, is not too much to keep.
 pub fn has_room_to_keep<A: Answers>(answers: &A, more: u128) -> bool
     ensures { let v = A.view answers.now in
-        result ≡ (nat_le (views.commands_kept v + 1) (2 ^ 20) && nat_le (views.bytes_kept v + more) (2 ^ 28)) }
+        result ≡ (nat_le (views.commands_kept v + 1) max_kept_commands && nat_le (views.bytes_kept v + more) max_kept_bytes) }
 {
-    answers.commands_kept().saturating_add(1) <= 1 << 20
-        && u128::from(answers.bytes_kept()).saturating_add(more) <= 1 << 28
+    answers.commands_kept().saturating_add(1) <= MAX_KEPT_COMMANDS
+        && u128::from(answers.bytes_kept()).saturating_add(more) <= u128::from(MAX_KEPT_BYTES)
 }
 
 /// Whether all of these are signalled.

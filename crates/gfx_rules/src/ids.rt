@@ -7,6 +7,7 @@ ghost use Rattle.gfx_model.specs.Checks as words;
 use crate::answers::Answers;
 use crate::checks::{first, unless};
 use gfx_types::Fault;
+use gfx_types::limits::MAX_LIVE_OBJECTS;
 
 /// Whether an id stands in a list.
 pub fn is_among(ids: &[u64], id: u64) -> bool
@@ -49,7 +50,7 @@ pub fn room_fault<A: Answers>(answers: &A, more: u64) -> Option<Fault>
     ensures { result ≡ words.room_fault (A.view answers.now) more }
 {
     unless(
-        u128::from(answers.object_count()) + u128::from(more) <= 65536,
+        u128::from(answers.object_count()) + u128::from(more) <= u128::from(MAX_LIVE_OBJECTS),
         Fault::LimitReached,
     )
 }

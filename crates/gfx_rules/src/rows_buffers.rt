@@ -6,17 +6,19 @@ ghost use Rattle.gfx_model.specs.Table as table;
 ghost use Rattle.gfx_model.specs.Events.Event.{AllocateCommandBuffers, FreeCommandBuffers, BeginCommandBuffer, EndCommandBuffer, ResetCommandBuffer};
 ghost use Rattle.gfx_model.specs.Table.{row_of};
 ghost use Rattle.gfx_model.specs.Checks as words;
+ghost use Rattle.gfx_model.specs.Limits.{max_list_length};
 
 use crate::answers::Answers;
 use crate::broken::first_broken;
 use crate::checks::{Check, first};
 use crate::ids::{new_faults, room_fault};
 use crate::lists::{live_once, of_each};
+use gfx_types::limits::MAX_LIST_LENGTH;
 use gfx_types::{Fault, Kind};
 
 /// The front of calls that make or free command buffers of a pool.
 fn pool_front<A: Answers>(answers: &A, device: u64, pool: u64, count: usize) -> Option<Fault>
-    ensures { result ≡ words.first_broken (A.view answers.now) (table.of_device kind.Pool device pool ++ table.value (nat_le 1 count) ∷ table.limit (nat_le count 65536) ∷ []) }
+    ensures { result ≡ words.first_broken (A.view answers.now) (table.of_device kind.Pool device pool ++ table.value (nat_le 1 count) ∷ table.limit (nat_le count max_list_length) ∷ []) }
 {
     first_broken(
         answers,
@@ -25,7 +27,7 @@ fn pool_front<A: Answers>(answers: &A, device: u64, pool: u64, count: usize) -> 
             Check::Live(Kind::Pool, pool),
             Check::Of(pool, device),
             Check::Must(Fault::BadValue, 1 <= count),
-            Check::Must(Fault::LimitReached, count <= 65536),
+            Check::Must(Fault::LimitReached, count <= MAX_LIST_LENGTH),
         ],
     )
 }

@@ -6,6 +6,7 @@ ghost use Rattle.gfx_model.specs.Events.Event.{CmdPipelineBarrier, CmdFillBuffer
 ghost use Rattle.gfx_model.specs.Table as table;
 ghost use Rattle.gfx_model.specs.Table.{row_of};
 ghost use Rattle.gfx_model.specs.Checks as words;
+ghost use Rattle.gfx_model.specs.Limits.{max_update};
 
 use crate::answers::Answers;
 use crate::broken::first_broken;
@@ -14,6 +15,7 @@ use crate::fits::{barriers_fit, clear_fits, fill_fits, update_fits};
 use crate::items::{barrier_values, resource_each};
 use crate::spans::span;
 use crate::values::{both, either, is_either, sum};
+use gfx_types::limits::{MAX_BARRIERS, MAX_UPDATE};
 use gfx_types::{Barrier, Fault, Kind};
 
 /// The fault of CmdPipelineBarrier.
@@ -26,7 +28,7 @@ pub fn cmd_pipeline_barrier<A: Answers>(answers: &A, cb: u64, barriers: &[Barrie
             Check::Live(Kind::CommandBuffer, cb),
             Check::Recording(cb),
             Check::Must(Fault::BadValue, 0 <= barriers.len()),
-            Check::Must(Fault::LimitReached, barriers.len() <= 256),
+            Check::Must(Fault::LimitReached, barriers.len() <= MAX_BARRIERS),
         ],
     );
     match front {
@@ -94,11 +96,11 @@ fn update_front<A: Answers>(
     count: u64,
 ) -> Option<Fault>
     ensures { result ≡ words.first_broken (A.view answers.now) (words.Check.live kind.CommandBuffer cb ∷ words.Check.recording cb ∷ table.res kind.Buffer cb buffer
-        ++ table.dst buffer ∷ table.value (table.divides 4 offset && table.divides 4 count && nat_le 4 count && nat_le count 65536)
+        ++ table.dst buffer ∷ table.value (table.divides 4 offset && table.divides 4 count && nat_le 4 count && nat_le count max_update)
         ∷ words.Check.ends_in buffer (offset + count) ∷ []) }
 {
     let whole = both(offset % 4 == 0, count % 4 == 0);
-    let fine = both(both(whole, 4 <= count), count <= 65536);
+    let fine = both(both(whole, 4 <= count), count <= MAX_UPDATE);
     let end = sum(offset, count);
     first_broken(
         answers,

@@ -7,6 +7,7 @@ ghost use Rattle.gfx_model.specs.Table as table;
 ghost use Rattle.gfx_model.specs.Table.{row_of};
 ghost use Rattle.gfx_model.specs.Checks as words;
 ghost use Rattle.gfx_rules.specs.Checks.{check_of};
+ghost use Rattle.gfx_model.specs.Limits.{max_regions};
 
 use crate::answers::Answers;
 use crate::broken::first_broken;
@@ -17,6 +18,7 @@ use crate::items::{
     mixed_values,
 };
 use crate::values::{both, is_either};
+use gfx_types::limits::MAX_REGIONS;
 use gfx_types::{BufferRegion, Fault, ImageRegion, Kind, MixedRegion};
 
 /// The front of a copy: that of all copies, and what is its own.
@@ -62,7 +64,7 @@ pub fn cmd_copy_buffer<A: Answers>(
 {
     let own = [
         Check::Must(Fault::BadValue, 1 <= regions.len()),
-        Check::Must(Fault::LimitReached, regions.len() <= 256),
+        Check::Must(Fault::LimitReached, regions.len() <= MAX_REGIONS),
     ];
     match copy_front(
         answers,
@@ -95,7 +97,7 @@ fn images_front<A: Answers>(
     ensures { result ≡ words.first_broken (A.view answers.now) (words.Check.live kind.CommandBuffer cb ∷ words.Check.recording cb
         ∷ table.copied cb kind.Image source kind.Image target
         ++ table.value (words.is_among source_layout (6 ∷ 1 ∷ []) && words.is_among target_layout (7 ∷ 1 ∷ [])) ∷ words.Check.same_texel source target
-        ∷ table.value (nat_le 1 count) ∷ table.limit (nat_le count 256) ∷ []) }
+        ∷ table.value (nat_le 1 count) ∷ table.limit (nat_le count max_regions) ∷ []) }
 {
     let fine = both(
         is_either(source_layout, 6, 1),
@@ -105,7 +107,7 @@ fn images_front<A: Answers>(
         Check::Must(Fault::BadValue, fine),
         Check::SameTexel(source, target),
         Check::Must(Fault::BadValue, 1 <= count),
-        Check::Must(Fault::LimitReached, count <= 256),
+        Check::Must(Fault::LimitReached, count <= MAX_REGIONS),
     ];
     copy_front(answers, cb, Kind::Image, source, Kind::Image, target, &own)
 }
@@ -165,12 +167,12 @@ fn mixed_front<A: Answers>(
 ) -> Option<Fault>
     ensures { result ≡ words.first_broken (A.view answers.now) (words.Check.live kind.CommandBuffer cb ∷ words.Check.recording cb
         ∷ table.copied cb of source to target ++ table.value (words.is_among layout (usual ∷ 1 ∷ []))
-        ∷ table.value (nat_le 1 count) ∷ table.limit (nat_le count 256) ∷ []) }
+        ∷ table.value (nat_le 1 count) ∷ table.limit (nat_le count max_regions) ∷ []) }
 {
     let own = [
         Check::Must(Fault::BadValue, is_either(layout, usual, 1)),
         Check::Must(Fault::BadValue, 1 <= count),
-        Check::Must(Fault::LimitReached, count <= 256),
+        Check::Must(Fault::LimitReached, count <= MAX_REGIONS),
     ];
     copy_front(answers, cb, of, source, to, target, &own)
 }

@@ -10,6 +10,7 @@ use crate::broken::first_broken;
 use crate::checks::{Check, first};
 use crate::spans::span;
 use crate::values::{both, is_image};
+use gfx_types::limits::{BIND_ALIGNMENT, MAX_EXTENT};
 use gfx_types::{Fault, Kind};
 
 /// The fault of AllocateMemory.
@@ -146,7 +147,7 @@ pub fn bind_buffer_memory<A: Answers>(
             Check::Of(buffer, device),
             Check::Of(memory, device),
             Check::Unbound(buffer),
-            Check::Must(Fault::BadValue, offset % 16 == 0),
+            Check::Must(Fault::BadValue, offset % BIND_ALIGNMENT == 0),
             Check::RestsIn(buffer, memory, offset),
         ],
     )
@@ -171,7 +172,10 @@ pub fn create_image<A: Answers>(
             Check::Live(Kind::Device, device),
             Check::New(image),
             Check::Must(Fault::BadValue, is_image(format, width, height, usage)),
-            Check::Must(Fault::LimitReached, both(width <= 4096, height <= 4096)),
+            Check::Must(
+                Fault::LimitReached,
+                both(width <= MAX_EXTENT, height <= MAX_EXTENT),
+            ),
             Check::Room(1),
         ],
     )
@@ -212,7 +216,7 @@ pub fn bind_image_memory<A: Answers>(
             Check::Of(image, device),
             Check::Of(memory, device),
             Check::Unbound(image),
-            Check::Must(Fault::BadValue, offset % 16 == 0),
+            Check::Must(Fault::BadValue, offset % BIND_ALIGNMENT == 0),
             Check::RestsIn(image, memory, offset),
         ],
     )

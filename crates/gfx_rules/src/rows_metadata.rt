@@ -10,6 +10,7 @@ use crate::broken::first_broken;
 use crate::checks::{Check, first};
 use crate::lists::marks_each;
 use crate::values::{both, is_layout};
+use gfx_types::limits::MAX_FRAME;
 use gfx_types::{Fault, Kind};
 
 /// The fault of FillMemory.
@@ -85,7 +86,7 @@ pub fn begin_section<A: Answers>(answers: &A, frame: u64) -> Option<Fault>
         answers,
         &[
             Check::AtStart,
-            Check::Must(Fault::BadValue, both(1 <= frame, frame <= 1 << 62)),
+            Check::Must(Fault::BadValue, both(1 <= frame, frame <= MAX_FRAME)),
         ],
     )
 }

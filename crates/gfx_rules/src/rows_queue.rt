@@ -6,6 +6,7 @@ ghost use Rattle.gfx_model.specs.Table as table;
 ghost use Rattle.gfx_model.specs.Events.Event.{QueueSubmit, QueueWaitIdle, DeviceWaitIdle, QueuePresentKHR};
 ghost use Rattle.gfx_model.specs.Table.{row_of};
 ghost use Rattle.gfx_model.specs.Checks as words;
+ghost use Rattle.gfx_model.specs.Limits.{max_submits, max_semaphores, max_presents};
 
 use crate::answers::Answers;
 use crate::broken::first_broken;
@@ -17,11 +18,12 @@ use crate::presents::{
 };
 use crate::submits::{lengths_each, near_fence, near_submits, order_fault};
 use crate::turns::waits_fault;
+use gfx_types::limits::{MAX_PRESENTS, MAX_SEMAPHORES, MAX_SUBMITS};
 use gfx_types::{Fault, Kind, Present, Submit, Submits};
 
 /// The front of QueueSubmit: how many of each there are.
 fn submit_front<A: Answers>(answers: &A, queue: u64, submits: &[Submit]) -> Option<Fault>
-    ensures { result ≡ words.first_broken (A.view answers.now) (words.Check.live kind.Queue queue ∷ table.between 0 16 submits.now
+    ensures { result ≡ words.first_broken (A.view answers.now) (words.Check.live kind.Queue queue ∷ table.between 0 max_submits submits.now
         ++ flat_map table.submit_lengths submits.now) }
 {
     let front = first_broken(
@@ -29,7 +31,7 @@ fn submit_front<A: Answers>(answers: &A, queue: u64, submits: &[Submit]) -> Opti
         &[
             Check::Live(Kind::Queue, queue),
             Check::Must(Fault::BadValue, 0 <= submits.len()),
-            Check::Must(Fault::LimitReached, submits.len() <= 16),
+            Check::Must(Fault::LimitReached, submits.len() <= MAX_SUBMITS),
         ],
     );
     match front {
@@ -76,22 +78,22 @@ pub fn device_wait_idle<A: Answers>(answers: &A, device: u64) -> Option<Fault>
 
 /// The front of QueuePresentKHR: its waits, and how many presents there are.
 fn present_front<A: Answers>(answers: &A, queue: u64, waits: &[u64], count: usize) -> Option<Fault>
-    ensures { result ≡ words.first_broken (A.view answers.now) (words.Check.live kind.Queue queue ∷ table.between 0 16 waits.now
-        ++ table.near_each kind.Semaphore queue waits.now ++ table.value (nat_le 1 count) ∷ table.limit (nat_le count 8) ∷ []) }
+    ensures { result ≡ words.first_broken (A.view answers.now) (words.Check.live kind.Queue queue ∷ table.between 0 max_semaphores waits.now
+        ++ table.near_each kind.Semaphore queue waits.now ++ table.value (nat_le 1 count) ∷ table.limit (nat_le count max_presents) ∷ []) }
 {
     let front = first_broken(
         answers,
         &[
             Check::Live(Kind::Queue, queue),
             Check::Must(Fault::BadValue, 0 <= waits.len()),
-            Check::Must(Fault::LimitReached, waits.len() <= 16),
+            Check::Must(Fault::LimitReached, waits.len() <= MAX_SEMAPHORES),
         ],
     );
     let counted = first_broken(
         answers,
         &[
             Check::Must(Fault::BadValue, 1 <= count),
-            Check::Must(Fault::LimitReached, count <= 8),
+            Check::Must(Fault::LimitReached, count <= MAX_PRESENTS),
         ],
     );
     first(

@@ -6,17 +6,19 @@ ghost use Rattle.gfx_model.specs.Table as table;
 ghost use Rattle.gfx_model.specs.Events.Event.{ResetFences, WaitForFences, GetFenceStatus};
 ghost use Rattle.gfx_model.specs.Table.{row_of};
 ghost use Rattle.gfx_model.specs.Checks as words;
+ghost use Rattle.gfx_model.specs.Limits.{max_list_length};
 
 use crate::answers::Answers;
 use crate::broken::first_broken;
 use crate::checks::{Check, first};
 use crate::lists::{live_each, of_each};
 use crate::values::{both, is_either};
+use gfx_types::limits::MAX_LIST_LENGTH;
 use gfx_types::{Fault, Kind};
 
 /// The front of calls on fences of a device.
 fn fences_fault<A: Answers>(answers: &A, device: u64, fences: &[u64]) -> Option<Fault>
-    ensures { result ≡ words.first_broken (A.view answers.now) (words.Check.live kind.Device device ∷ table.between 1 65536 fences.now
+    ensures { result ≡ words.first_broken (A.view answers.now) (words.Check.live kind.Device device ∷ table.between 1 max_list_length fences.now
         ++ (map (words.Check.live kind.Fence) fences.now ++ map (λ f. words.Check.of f device) fences.now)) }
 {
     let front = first_broken(
@@ -24,7 +26,7 @@ fn fences_fault<A: Answers>(answers: &A, device: u64, fences: &[u64]) -> Option<
         &[
             Check::Live(Kind::Device, device),
             Check::Must(Fault::BadValue, 1 <= fences.len()),
-            Check::Must(Fault::LimitReached, fences.len() <= 65536),
+            Check::Must(Fault::LimitReached, fences.len() <= MAX_LIST_LENGTH),
         ],
     );
     match front {

@@ -11,6 +11,7 @@ use crate::answers::Answers;
 use crate::broken::first_broken;
 use crate::checks::{Check, first};
 use crate::values::{all_of, chain_bytes, either, is_chain};
+use gfx_types::limits::{MAX_EXTENT, MAX_SWAPCHAIN_IMAGES};
 use gfx_types::{Fault, Kind};
 
 /// The fault of CreateSwapchainKHR.
@@ -29,7 +30,11 @@ pub fn create_swapchain<A: Answers>(
     ensures { result ≡ words.first_broken (A.view answers.now) (row_of (CreateSwapchainKHR device swapchain surface images format width height usage)) }
 {
     let fine = is_chain(images, format, width, height, usage);
-    let small = all_of(images <= 16, width <= 4096, height <= 4096);
+    let small = all_of(
+        images <= MAX_SWAPCHAIN_IMAGES,
+        width <= MAX_EXTENT,
+        height <= MAX_EXTENT,
+    );
     let bytes = chain_bytes(images, format, width, height);
     first_broken(
         answers,

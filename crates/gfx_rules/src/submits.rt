@@ -13,6 +13,7 @@ use crate::checks::{Check, first, unless};
 use crate::distinct::are_submitted_once;
 use crate::lists::near_each;
 use crate::turns::turns_fault;
+use gfx_types::limits::{MAX_SEMAPHORES, MAX_SUBMIT_BUFFERS};
 use gfx_types::{Fault, Kind, Submit, Submits};
 
 /// 28 if a submit has too many waits, command buffers or signals.
@@ -26,11 +27,11 @@ fn lengths_fault<A: Answers>(answers: &A, submit: &Submit) -> Option<Fault>
         answers,
         &[
             Check::Must(Fault::BadValue, 0 <= waits),
-            Check::Must(Fault::LimitReached, waits <= 16),
+            Check::Must(Fault::LimitReached, waits <= MAX_SEMAPHORES),
             Check::Must(Fault::BadValue, 0 <= cbs),
-            Check::Must(Fault::LimitReached, cbs <= 64),
+            Check::Must(Fault::LimitReached, cbs <= MAX_SUBMIT_BUFFERS),
             Check::Must(Fault::BadValue, 0 <= signals),
-            Check::Must(Fault::LimitReached, signals <= 16),
+            Check::Must(Fault::LimitReached, signals <= MAX_SEMAPHORES),
         ],
     )
 }

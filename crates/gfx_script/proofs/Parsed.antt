@@ -1,14 +1,19 @@
 -- A text parsed line by line.
-use Rattle.std.proofs.Common.{◌≡◌, ℕ, ◌+◌, ◌-◌, ◌≤◌, min, List, [], length, sym, ap, ◌∙◌, arith, Err}
+use Rattle.std.proofs.Common.{◌≡◌, ℕ, ◌+◌, ◌-◌, ◌≤◌, min, List, [], length, sym, ap, subst, ◌∙◌, arith, Err}
 use Rattle.gfx_script_model.specs.Statements.{lines_of}
-use Rattle.gfx_script_model.specs.Scripts.{Kind, Reading, reads, refuses, parses, fails, in_order, at_first}
+use Rattle.gfx_script_model.specs.Scripts.{Kind, Reading, Parsed, reads, refuses, parses, fails, in_order, at_first}
 use Rattle.gfx_text_grammar.specs.Parsing.{line_outcome, after_outcome, parse_from, parse_of}
+use Rattle.gfx_text_grammar.proofs.TextLaws.{parses_are_computed}
 use Rattle.gfx_script.specs.Answers.{IsRefusal, fault_at}
 use Rattle.gfx_script.specs.Cuts.{IsFirstLine}
 use Rattle.gfx_script.specs.Kinds.{kind_of}
-use Rattle.gfx_script.specs.State.{IsParsed}
+use Rattle.gfx_script.specs.State.{IsParsed, ParsesAs}
 use Rattle.gfx_script.specs.declared.line_fault.LineFault.{LineFault}
 use Rattle.gfx_script.specs.declared.line_fault.LineFault.TheVariants.{Refused, WantMemory}
+
+-- what is computed of a text is what it parses to, and nothing else
+pub parsed_as : (text : List ℕ) (parsed : Parsed) → parse_of text ≡ parsed → ParsesAs text parsed
+parsed_as text parsed e = subst (ParsesAs text) e (parses_are_computed text)
 
 -- where a line ends in the text
 ends_at : (total rest line behind : ℕ) → rest ≤ total → rest ≡ min rest (line + 1) + behind → min total (total - rest + line + 1) ≡ total - behind
@@ -42,8 +47,8 @@ module _ (text rest line behind : List ℕ) (number : ℕ) (r : Reading) (within
 
   -- its fault is the text's
   pub fault_stops : parse_of text ≡ parse_from (length text) number (length text - length rest) r (lines_of rest) → (fault : LineFault)
-      → IsRefusal (line_outcome number (length text - length behind) r line) fault → IsParsed (parse_of text) (Err (fault_at number fault))
-  fault_stops parsed (Refused kind) h = parsed ∙ parse_stops (kind_of kind) h
+      → IsRefusal (line_outcome number (length text - length behind) r line) fault → IsParsed text (Err (fault_at number fault))
+  fault_stops parsed (Refused kind) h = parsed_as text (fails number (kind_of kind)) (parsed ∙ parse_stops (kind_of kind) h)
   fault_stops parsed WantMemory h = tt
 
 -- all lines are read

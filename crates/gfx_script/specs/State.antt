@@ -6,7 +6,7 @@ use Rattle.gfx_script_model.specs.Statements.Form.{states}
 use Rattle.gfx_grammar.specs.Reading.{◌>>=◌}
 use Rattle.gfx_text_grammar.specs.StatementReading.{read_statement}
 use Rattle.gfx_script_model.specs.Scripts as script
-use Rattle.gfx_script_model.specs.Scripts.{in_order, Parsed, parses, fails}
+use Rattle.gfx_script_model.specs.Scripts.{in_order, Parsed, Parses, parses, fails}
 use Rattle.gfx_script.specs.Kinds.{kind_of}
 use Rattle.gfx_script.specs.Line.{line_of, part_of, phases_of}
 use Rattle.gfx_script.specs.Staged.{thread_of_stage}
@@ -73,8 +73,12 @@ pub record EndsPhase (before after : Reading) : Type 0 where
   pub parts : after.parts.items ≡ []
   pub lines : after.lines.items ≡ []
 
+-- a text parses to this and to nothing else
+abbrev pub ParsesAs : List ℕ → Parsed → Type 0
+ParsesAs text parsed = Parses text parsed × ((other : Parsed) → Parses text other → other ≡ parsed)
+
 -- the script that a text parses to, or its first line with a fault; want of memory says nothing of the text
-abbrev pub IsParsed : Parsed → Result Script ScriptFault → Type 0
-IsParsed parsed (Ok script) = parsed ≡ parses script.minor (phases_of script.phases)
-IsParsed parsed (Err (Bad line kind)) = parsed ≡ fails line (kind_of kind)
-IsParsed parsed (Err WantMemory) = Unit {0}
+abbrev pub IsParsed : List ℕ → Result Script ScriptFault → Type 0
+IsParsed text (Ok script) = ParsesAs text (parses script.minor (phases_of script.phases))
+IsParsed text (Err (Bad line kind)) = ParsesAs text (fails line (kind_of kind))
+IsParsed text (Err WantMemory) = Unit {0}

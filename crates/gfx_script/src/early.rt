@@ -7,18 +7,7 @@ ghost use Rattle.gfx_script.specs.Early.{text_fault};
 
 use crate::kind::ScriptKind;
 use crate::words::is_word;
-
-/// The bytes of a script.
-const MAX_SCRIPT: usize = 1 << 30;
-
-/// The bytes of a line.
-const MAX_LINE: usize = 1 << 20;
-
-/// The lines of a script.
-const MAX_LINES: u32 = 1 << 20;
-
-/// The phases of a script.
-pub(crate) const MAX_PHASES: usize = 64;
+use gfx_types::limits::{MAX_LINE, MAX_LINES, MAX_SCRIPT};
 
 /// The fault of a line that its bytes have, or its place: its number, and where it ends in the text with its line feed.
 pub(crate) fn early_fault(number: u32, through: usize, line: &[u8]) -> Option<ScriptKind>

@@ -16,6 +16,7 @@ mod parsing;
 mod plain;
 mod putting;
 mod reading;
+mod record_lists;
 mod records;
 mod resolver;
 mod script;

@@ -1,5 +1,4 @@
 //! Scripts from text.
-ghost use Rattle.gfx_text_grammar.specs.Parsing.{parse_of};
 ghost use Rattle.gfx_script.specs.State.{IsParsed};
 
 use crate::fault::ScriptFault;
@@ -10,7 +9,7 @@ use std::alloc::Global;
 
 /// The script that the text is. Bad names the first line with a fault, and the first fault of that line.
 pub fn parse(alloc: Global, text: &[u8]) -> Result<Script, ScriptFault>
-    ensures { IsParsed (parse_of text.now) result }
+    ensures { IsParsed text.now result }
 {
     let mut reading = Reading::new(alloc);
     let mut number = 1;

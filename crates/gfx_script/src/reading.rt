@@ -1,14 +1,14 @@
 //! What has been read of a script.
-ghost use Rattle.std.specs.Prelude.{◌≡◌, ◌≤◌, ◌^◌, ◌==◌, ◌&&◌, nat_le, [], ◌∷◌, length, map, OnOk, IfOk, IsTrue};
+ghost use Rattle.std.specs.Prelude.{◌≡◌, ◌≤◌, ◌==◌, ◌&&◌, nat_le, [], ◌∷◌, length, map, OnOk, IfOk, IsTrue};
 ghost use Rattle.std.specs.List.{list_any};
-ghost use Rattle.gfx_model.specs.Limits.{max_phases};
+ghost use Rattle.gfx_model.specs.Limits.{max_phases, max_lines};
 ghost use Rattle.gfx_script_model.specs.Scripts as script;
 ghost use Rattle.gfx_script.specs.Kept.{is_version};
 ghost use Rattle.gfx_script.specs.Staged.{is_staged, is_outside, is_in_thread, thread_of_stage};
 ghost use Rattle.gfx_script_model.specs.Scripts.{at_first, set_version, begin_thread, in_order};
 ghost use Rattle.gfx_text_grammar.specs.Parsing.{form_of, form_outcome, line_outcome};
 
-use crate::early::{MAX_PHASES, early_fault, is_phase};
+use crate::early::{early_fault, is_phase};
 use crate::kind::ScriptKind;
 use crate::line::Line;
 use crate::line_fault::LineFault;
@@ -17,6 +17,7 @@ use crate::numbering::Place;
 use crate::plain::Plain;
 use crate::script::{Lines, Part, Parts, Phase, Phases, Script};
 use crate::tokens::tokens;
+use gfx_types::limits::MAX_PHASES;
 use std::alloc::{AllocError, Global};
 use std::mem;
 
@@ -120,7 +121,7 @@ impl<'t> Reading<'t> {
         line: &'t [u8],
     ) -> Result<(), LineFault>
         ensures line { GivesOutcome (line_outcome number through (reading_of self.old) line.now) (reading_of self.new) result }
-        ensures number { OnOk result (number ≤ 2 ^ 20) }
+        ensures number { OnOk result (number ≤ max_lines) }
     {
         if let Some(kind) = early_fault(number, through, line) {
             return Err(LineFault::Refused(kind));

@@ -16,7 +16,7 @@ use Rattle.gfx_model.specs.Bytes.{byte, bytes_at}
 use Rattle.gfx_model.specs.Section as section
 use Rattle.gfx_model.specs.Section.{Known, object_events, fill_events, fetch_event, image_event, marks_of}
 use Rattle.gfx_pages.specs.declared.bytes.Span.{Span}
-use Rattle.gfx_pages.specs.Fills as pages
+use Rattle.gfx_pages.proofs.Sized as pages
 use Rattle.gfx_pages.proofs.Scans.{span_is}
 use Rattle.gfx_objects.specs.declared.object.Object.{Object}
 use Rattle.gfx_types.specs.declared.map_range.MapRange.{MapRange}
@@ -105,15 +105,15 @@ module _ (v : View) (es : List Change) (x size : ℕ) (bytes : List ℕ) (is : b
           ap (λ l. map (fill_event x bytes) (cons_option (pages.span_of l) rest)) nothing
           ∙ same ∙ ap (λ l. map told (cons_option (section.span_of l) others)) (sym nothing ∙ agree)
       by (n ∷ ns) some agree =
-          let span : Span = record { at = n; length = pages.last_of n ns + 1 - n } in
+          let span : Span = record { at = n; length = section.last_of n ns + 1 - n } in
           let found : here k ≡ Some span = ap pages.span_of some in
           let inside = span_is (slice_index bytes) (k * 65536) (min 65536 (size - k * 65536)) span found in
           let high = inside.high in
           let more = inside.some in
-          let within : n + (pages.last_of n ns + 1 - n) ≤ size = omega (arith, high, more) in
+          let within : n + (section.last_of n ns + 1 - n) ≤ size = omega (arith, high, more) in
           ap (λ l. map (fill_event x bytes) (cons_option (pages.span_of l) rest)) some
           ∙ ap (λ e. e ∷ map (fill_event x bytes) rest) (one_fill span within)
-          ∙ ap (λ l. told (record { at = n; length = pages.last_of n ns + 1 - n }) ∷ l) same
+          ∙ ap (λ l. told (record { at = n; length = section.last_of n ns + 1 - n }) ∷ l) same
           ∙ ap (λ l. map told (cons_option (section.span_of l) others)) (sym some ∙ agree)
 
   pages_same : (ks : List ℕ) → map (fill_event x bytes) (filter_map here ks) ≡ map told (filter_map there ks)
@@ -121,9 +121,10 @@ module _ (v : View) (es : List Change) (x size : ℕ) (bytes : List ℕ) (is : b
   pages_same (k ∷ ks) = one_page k (filter_map here ks) (filter_map there ks) (pages_same ks)
 
   pub fills_same : fills_written x bytes ≡ fill_events (record { answers = v; es = es }) x size
-  unfolding pages.fills section.fills_of
+  unfolding section.fills_of
   fills_same =
-      ap (λ n. map (fill_event x bytes) (filter_map (pages.page_fill 65536 (slice_index bytes) n) (range_with_len 0 ((n + 65535) / 65536)))) long
+      ap (map (fill_event x bytes)) (pages.fills_are bytes)
+      ∙ ap (λ n. map (fill_event x bytes) (filter_map (pages.page_fill 65536 (slice_index bytes) n) (range_with_len 0 ((n + 65535) / 65536)))) long
       ∙ pages_same (range_with_len 0 ((size + 65535) / 65536))
 
 pub memory_anew : (v : View) (es : List Change) (bytes : Place → Option (List ℕ)) (x parent size : ℕ) (mapped : Option MapRange) (d : Kept) → d ≡ kept.Memory size mapped

@@ -1,12 +1,13 @@
 -- Going over the fills of a list of bytes, and what a section says of them.
-use Rattle.std.proofs.Common.{◌≡◌, ℕ, zero, suc, ◌+◌, ◌-◌, ◌*◌, ◌/◌, ◌<◌, ◌≤◌, min, Bool, true, false, List, [], ◌∷◌, Option, Some, None, length, nat_le, cond, refl, ap, sym, ◌∙◌, arith, rules}
+use Rattle.std.proofs.Common.{◌≡◌, ℕ, zero, suc, ◌+◌, ◌-◌, ◌*◌, ◌/◌, ◌<◌, ◌≤◌, min, Bool, true, false, List, [], ◌∷◌, Option, Some, None, length, nat_le, cond, refl, ap, sym, subst, ◌∙◌, arith, rules}
 use Rattle.std.specs.Prelude.{find, filter, option_map, unwrap_or, IsSome, IsSomeAnd, slice_index}
 use Rattle.std.specs.List.{AllByRecursion, filter_map, range_with_len, cons_option}
 use Rattle.std.proofs.lemmas.Bool.{le-leb, leb-true}
 use Rattle.std.proofs.lemmas.Bool.Decides.{nat_tests}
 use Rattle.gfx_pages.specs.declared.bytes.Span.{Span}
-use Rattle.gfx_pages.specs.Fills.{fills, page_fill}
+use Rattle.gfx_pages.specs.Fills.{fills}
 use Rattle.gfx_pages.proofs.Scans.{span_is}
+use Rattle.gfx_pages.proofs.Sized.{page_fill, fills_are}
 use Rattle.gfx_state.proofs.Listing.{filter_in, filter_out}
 
 -- each span begins behind those before it
@@ -114,12 +115,11 @@ module _ (f : ℕ → ℕ) (n : ℕ) where
           ((omega (arith, some), omega (arith, low, high), omega (arith, low, some, high)), rest)
 
 pub fills_rise : (bytes : List ℕ) → IsRising (fills bytes)
-unfolding fills
-fills_rise bytes = rising (slice_index bytes) (length bytes) 0 ((length bytes + 65535) / 65536)
+fills_rise bytes = subst IsRising (sym (fills_are bytes)) (rising (slice_index bytes) (length bytes) 0 ((length bytes + 65535) / 65536))
 
 pub fills_short : (bytes : List ℕ) → AllByRecursion (IsPart (length bytes)) (fills bytes)
-unfolding fills
-fills_short bytes = all_short (slice_index bytes) (length bytes) 0 ((length bytes + 65535) / 65536)
+fills_short bytes =
+    subst (AllByRecursion (IsPart (length bytes))) (sym (fills_are bytes)) (all_short (slice_index bytes) (length bytes) 0 ((length bytes + 65535) / 65536))
 
 -- what holds of all holds of the one that is found
 pub found_holds : (P : Span → Type 0) (after : ℕ) (ss : List Span) (s : Span) → AllByRecursion P ss → find (is_from after) ss ≡ Some s → P s

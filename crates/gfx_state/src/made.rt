@@ -5,6 +5,7 @@ ghost use Rattle.gfx_model.specs.Section.{when, mark};
 ghost use Rattle.gfx_state.specs.Written.{Wrote};
 
 use crate::StateFault;
+use crate::room::Room;
 use crate::writer::write_effect;
 use gfx_io::Sink;
 use gfx_types::{Call, Effect, Meta};
@@ -20,7 +21,7 @@ pub(crate) fn mark(is: bool) -> u32
 #[tactic(auto, using(gfx_section_law::proofs::Sizes::fixed_small), unfolding(gfx_model::specs::Spelling::fields_of))]
 pub(crate) fn write_instance<K: Sink>(
     sink: &mut K,
-    room: &mut Vec<u8>,
+    room: &mut Room,
     instance: u64,
     api: u32,
 ) -> Result<(), StateFault>
@@ -34,7 +35,7 @@ pub(crate) fn write_instance<K: Sink>(
 #[tactic(auto, using(gfx_section_law::proofs::Sizes::fixed_small), unfolding(gfx_model::specs::Spelling::fields_of))]
 pub(crate) fn write_surface<K: Sink>(
     sink: &mut K,
-    room: &mut Vec<u8>,
+    room: &mut Room,
     instance: u64,
     surface: u64,
 ) -> Result<(), StateFault>
@@ -48,7 +49,7 @@ pub(crate) fn write_surface<K: Sink>(
 #[tactic(auto, using(gfx_section_law::proofs::Sizes::fixed_small), unfolding(gfx_model::specs::Spelling::fields_of))]
 pub(crate) fn write_device<K: Sink>(
     sink: &mut K,
-    room: &mut Vec<u8>,
+    room: &mut Room,
     instance: u64,
     device: u64,
 ) -> Result<(), StateFault>
@@ -62,7 +63,7 @@ pub(crate) fn write_device<K: Sink>(
 #[tactic(auto, using(gfx_section_law::proofs::Sizes::fixed_small), unfolding(gfx_model::specs::Spelling::fields_of))]
 pub(crate) fn write_queue<K: Sink>(
     sink: &mut K,
-    room: &mut Vec<u8>,
+    room: &mut Room,
     device: u64,
     queue: u64,
 ) -> Result<(), StateFault>
@@ -76,7 +77,7 @@ pub(crate) fn write_queue<K: Sink>(
 #[tactic(auto, using(gfx_section_law::proofs::Sizes::fixed_small), unfolding(gfx_model::specs::Spelling::fields_of))]
 pub(crate) fn write_fence<K: Sink>(
     sink: &mut K,
-    room: &mut Vec<u8>,
+    room: &mut Room,
     device: u64,
     fence: u64,
     flags: u32,
@@ -95,7 +96,7 @@ pub(crate) fn write_fence<K: Sink>(
 #[tactic(auto, using(gfx_section_law::proofs::Sizes::fixed_small), unfolding(gfx_model::specs::Spelling::fields_of))]
 fn write_signal<K: Sink>(
     sink: &mut K,
-    room: &mut Vec<u8>,
+    room: &mut Room,
     semaphore: u64,
     signalled: bool,
 ) -> Result<(), StateFault>
@@ -115,7 +116,7 @@ fn write_signal<K: Sink>(
 #[tactic(auto, using(gfx_section_law::proofs::Sizes::fixed_small), unfolding(gfx_model::specs::Spelling::fields_of))]
 pub(crate) fn write_semaphore<K: Sink>(
     sink: &mut K,
-    room: &mut Vec<u8>,
+    room: &mut Room,
     device: u64,
     semaphore: u64,
     signalled: bool,

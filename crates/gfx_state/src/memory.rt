@@ -10,19 +10,19 @@ ghost use Rattle.gfx_state.specs.Written.{Wrote};
 ghost use Rattle.gfx_model.specs.Limits.{page_size};
 
 use crate::StateFault;
+use crate::owned::Owned;
 use crate::piece::piece_of;
+use crate::room::Room;
 use crate::writer::{write_effect, write_fill_memory};
 use gfx_device::StateBytes;
 use gfx_io::Sink;
 use gfx_pages::Span;
 use gfx_types::{Call, Effect, MapRange, Place};
-use std::alloc::Global;
 
 // Writes the bytes of a fill.
 fn write_fill<B: StateBytes, K: Sink>(
-    alloc: Global,
     sink: &mut K,
-    room: &mut Vec<u8>,
+    room: &mut Room,
     bytes: &B,
     memory: u64,
     fill: Span,
@@ -32,15 +32,20 @@ fn write_fill<B: StateBytes, K: Sink>(
     ensures { Wrote (K.taken sink.old) (K.taken sink.new) (K.faults sink.old) (K.faults sink.new)
         (fill_event memory (bytes_in (B.bytes bytes.now) (place.Memory memory)) fill ∷ []) result }
 {
-    let piece = piece_of(alloc, bytes, Place::Memory(memory), fill.at, fill.length)?;
+    let piece = piece_of(
+        room.alloc,
+        bytes,
+        Place::Memory(memory),
+        fill.at,
+        fill.length,
+    )?;
     write_fill_memory(sink, room, memory, fill.at, &piece)
 }
 
 // Writes the fills of a memory of so many bytes.
 fn write_fills<B: StateBytes, K: Sink>(
-    alloc: Global,
     sink: &mut K,
-    room: &mut Vec<u8>,
+    room: &mut Room,
     bytes: &B,
     memory: u64,
     _size: u64,
@@ -51,7 +56,7 @@ fn write_fills<B: StateBytes, K: Sink>(
 {
     let mut after = 0;
     'fills: while let Some(fill) = bytes.next_fill(Place::Memory(memory), after) {
-        write_fill(alloc, sink, room, bytes, memory, fill)?;
+        write_fill(sink, room, bytes, memory, fill)?;
         after = fill.at + 1;
     }
     Ok(())
@@ -61,7 +66,7 @@ fn write_fills<B: StateBytes, K: Sink>(
 #[tactic(auto, using(gfx_section_law::proofs::Sizes::fixed_small), unfolding(gfx_model::specs::Spelling::fields_of))]
 fn write_map<K: Sink>(
     sink: &mut K,
-    room: &mut Vec<u8>,
+    room: &mut Room,
     device: u64,
     memory: u64,
     mapped: Option<MapRange>,
@@ -86,26 +91,24 @@ fn write_map<K: Sink>(
 /// Writes a memory with its bytes and its map.
 #[tactic(auto, using(gfx_section_law::proofs::Sizes::fixed_small), unfolding(gfx_model::specs::Spelling::fields_of))]
 pub(crate) fn write_memory<B: StateBytes, K: Sink>(
-    alloc: Global,
     sink: &mut K,
-    room: &mut Vec<u8>,
+    room: &mut Room,
     bytes: &B,
-    device: u64,
-    memory: u64,
+    owned: Owned,
     size: u64,
     mapped: Option<MapRange>,
 ) -> Result<(), StateFault>
-    requires { option_map length (B.bytes bytes.now (place.Memory memory)) ≡ Some size }
+    requires { option_map length (B.bytes bytes.now (place.Memory owned.id)) ≡ Some size }
     ensures { Wrote (K.taken sink.old) (K.taken sink.new) (K.faults sink.old) (K.faults sink.new)
-        (AllocateMemory device memory size ∷ fills_written memory (bytes_in (B.bytes bytes.now) (place.Memory memory))
-        ++ option_map_or (λ r. MapMemory device memory r.offset r.length ∷ []) (option_map range_of mapped) []) result }
+        (AllocateMemory owned.parent owned.id size ∷ fills_written owned.id (bytes_in (B.bytes bytes.now) (place.Memory owned.id))
+        ++ option_map_or (λ r. MapMemory owned.parent owned.id r.offset r.length ∷ []) (option_map range_of mapped) []) result }
 {
     let call = Call::AllocateMemory {
-        device,
-        memory,
+        device: owned.parent,
+        memory: owned.id,
         size,
     };
     write_effect(sink, room, &Effect::Call(call))?;
-    write_fills(alloc, sink, room, bytes, memory, size)?;
-    write_map(sink, room, device, memory, mapped)
+    write_fills(sink, room, bytes, owned.id, size)?;
+    write_map(sink, room, owned.parent, owned.id, mapped)
 }

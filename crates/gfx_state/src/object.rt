@@ -1,7 +1,8 @@
 //! The blocks of one live object.
 ghost use Rattle.std.specs.Prelude.{◌≡◌, List, Some, true};
 ghost use Rattle.std.specs.FinMap as map;
-ghost use Rattle.gfx_model.specs.Steps.{Change};
+ghost use Rattle.gfx_types.specs.declared.names.Kind.TheVariants as kind;
+ghost use Rattle.gfx_model.specs.Steps.{Change, kind_of};
 ghost use Rattle.gfx_model.specs.Section as section;
 ghost use Rattle.gfx_objects.specs.Object.{detail_of, is_within};
 ghost use Rattle.gfx_commands.specs.Recordings.{buffers};
@@ -15,20 +16,109 @@ use crate::made::{
     mark, write_device, write_fence, write_instance, write_queue, write_semaphore, write_surface,
 };
 use crate::memory::write_memory;
+use crate::owned::Owned;
 use crate::parts::Parts;
 use crate::pool::write_pool;
 use crate::resource::{write_buffer, write_image};
-use crate::swapchain::{Shape, write_swapchain};
+use crate::room::Room;
+use crate::shape::Shape;
+use crate::swapchain::{Chain, write_swapchain};
 use gfx_device::StateBytes;
 use gfx_io::Sink;
 use gfx_objects::{Detail, Object};
-use std::alloc::Global;
+
+// Writes an image anew, and nothing of one that belongs to a swapchain.
+fn write_own_image<K: Sink>(
+    sink: &mut K,
+    room: &mut Room,
+    parts: &Parts<'_>,
+    id: u64,
+    object: Object,
+) -> Result<(), StateFault>
+    requires { kind_of (detail_of object.detail) ≡ kind.Image }
+    ensures written { (es : List Change) → Wrote (K.taken sink.old) (K.taken sink.new) (K.faults sink.old) (K.faults sink.new)
+        (section.object_events (record { answers = answers_in parts.now; es = es }) id object.parent (detail_of object.detail)) result }
+    ensures counts { Counted (K.faults sink.old) (K.faults sink.new) result }
+{
+    let owned = Owned {
+        parent: object.parent,
+        id,
+    };
+    match object.detail {
+        Detail::Image {
+            format,
+            width,
+            height,
+            usage,
+            index,
+            ..
+        } => {
+            let shape = Shape {
+                format,
+                width,
+                height,
+                usage,
+            };
+            match index {
+                None => write_image(sink, room, parts.objects, owned, shape),
+                Some(_) => Ok(()),
+            }
+        }
+        _ => unreachable!(),
+    }
+}
+
+// Writes a swapchain anew.
+fn write_chain<B: StateBytes, K: Sink>(
+    sink: &mut K,
+    room: &mut Room,
+    parts: &Parts<'_>,
+    bytes: &B,
+    id: u64,
+    object: Object,
+) -> Result<(), StateFault>
+    requires is { kind_of (detail_of object.detail) ≡ kind.Swapchain }
+    requires row { map.get parts.now.objects.now.rows id ≡ Some object }
+    requires within { is_within (detail_of object.detail) ≡ true }
+    requires places { HasPlacesOf (answers_in parts.now) (B.bytes bytes.now) id (detail_of object.detail) }
+    ensures written { (es : List Change) → IsStoredOf (answers_in parts.now) (B.bytes bytes.now) es id (detail_of object.detail) → Wrote (K.taken sink.old) (K.taken sink.new) (K.faults sink.old) (K.faults sink.new)
+        (section.object_events (record { answers = answers_in parts.now; es = es }) id object.parent (detail_of object.detail)) result }
+    ensures counts { Counted (K.faults sink.old) (K.faults sink.new) result }
+{
+    let owned = Owned {
+        parent: object.parent,
+        id,
+    };
+    match object.detail {
+        Detail::Swapchain {
+            surface,
+            images,
+            format,
+            width,
+            height,
+            usage,
+        } => {
+            let shape = Shape {
+                format,
+                width,
+                height,
+                usage,
+            };
+            let chain = Chain {
+                surface,
+                images,
+                shape,
+            };
+            write_swapchain(sink, room, parts, bytes, owned, chain)
+        }
+        _ => unreachable!(),
+    }
+}
 
 /// Writes the blocks that make a live object anew.
 pub(crate) fn write_object<B: StateBytes, K: Sink>(
-    alloc: Global,
     sink: &mut K,
-    room: &mut Vec<u8>,
+    room: &mut Room,
     parts: &Parts<'_>,
     bytes: &B,
     id: u64,
@@ -43,78 +133,28 @@ pub(crate) fn write_object<B: StateBytes, K: Sink>(
     ensures counts { Counted (K.faults sink.old) (K.faults sink.new) result }
 {
     let parent = object.parent;
+    let owned = Owned { parent, id };
     match object.detail {
         Detail::Instance { api } => write_instance(sink, room, id, api),
         Detail::Surface => write_surface(sink, room, parent, id),
         Detail::Device => write_device(sink, room, parent, id),
         Detail::Queue => write_queue(sink, room, parent, id),
-        Detail::Memory { size, mapped } => {
-            write_memory(alloc, sink, room, bytes, parent, id, size, mapped)
-        }
+        Detail::Memory { size, mapped } => write_memory(sink, room, bytes, owned, size, mapped),
         Detail::Buffer { size, usage, .. } => {
-            write_buffer(sink, room, parts.objects, parent, id, size, usage)
+            write_buffer(sink, room, parts.objects, owned, size, usage)
         }
-        Detail::Image {
-            format,
-            width,
-            height,
-            usage,
-            index,
-            ..
-        } => match index {
-            None => write_image(
-                sink,
-                room,
-                parts.objects,
-                parent,
-                id,
-                format,
-                width,
-                height,
-                usage,
-            ),
-            Some(_) => Ok(()),
-        },
+        Detail::Image { .. } => write_own_image(sink, room, parts, id, object),
         Detail::Pool { flags } => write_pool(
-            alloc,
             sink,
             room,
             parts.objects,
             parts.recordings,
-            parent,
-            id,
+            owned,
             flags,
         ),
         Detail::CommandBuffer => Ok(()),
         Detail::Fence => write_fence(sink, room, parent, id, mark(parts.signals.status(id))),
         Detail::Semaphore => write_semaphore(sink, room, parent, id, parts.signals.status(id)),
-        Detail::Swapchain {
-            surface,
-            images,
-            format,
-            width,
-            height,
-            usage,
-        } => {
-            let shape = Shape {
-                images,
-                format,
-                width,
-                height,
-                usage,
-            };
-            write_swapchain(
-                alloc,
-                sink,
-                room,
-                parts.objects,
-                parts.images,
-                bytes,
-                parent,
-                id,
-                surface,
-                shape,
-            )
-        }
+        Detail::Swapchain { .. } => write_chain(sink, room, parts, bytes, id, object),
     }
 }

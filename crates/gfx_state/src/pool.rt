@@ -16,19 +16,19 @@ ghost use Rattle.gfx_model.specs.Limits.{max_live_objects, max_payload};
 
 use crate::StateFault;
 use crate::ids::{children_of, ids_of};
+use crate::owned::Owned;
+use crate::room::Room;
 use crate::writer::write_effect;
 use gfx_commands::{CbState, Recordings};
 use gfx_io::Sink;
 use gfx_objects::Objects;
 use gfx_params::{ParamFault, decode};
 use gfx_types::{Call, Effect, Kind};
-use std::alloc::Global;
 
 // Writes a recorded command.
 fn write_command<K: Sink>(
-    alloc: Global,
     sink: &mut K,
-    room: &mut Vec<u8>,
+    room: &mut Room,
     call_id: u32,
     params: &[u8],
 ) -> Result<(), StateFault>
@@ -36,7 +36,7 @@ fn write_command<K: Sink>(
     requires small { length (payload 1 0 (event_in (record { call_id = call_id; params = params.now }))) ≤ max_payload }
     ensures { Wrote (K.taken sink.old) (K.taken sink.new) (K.faults sink.old) (K.faults sink.new) (event_in (record { call_id = call_id; params = params.now }) ∷ []) result }
 {
-    match decode(alloc, 1, call_id, params) {
+    match decode(room.alloc, 1, call_id, params) {
         Ok(call) => write_effect(sink, room, &Effect::Call(call)),
         Err(ParamFault::BadParams) => unreachable!(),
         Err(ParamFault::WantMemory) => Err(StateFault::WantMemory),
@@ -45,9 +45,8 @@ fn write_command<K: Sink>(
 
 // Writes the commands of a buffer, which is recording or executable.
 fn write_commands<K: Sink>(
-    alloc: Global,
     sink: &mut K,
-    room: &mut Vec<u8>,
+    room: &mut Room,
     recordings: &Recordings,
     cb: u64,
 ) -> Result<(), StateFault>
@@ -58,7 +57,7 @@ fn write_commands<K: Sink>(
     let _totals = recordings.totals();
     let mut k = 0;
     'commands: while let Some(command) = recordings.command(cb, k) {
-        write_command(alloc, sink, room, command.call_id, command.params.items())?;
+        write_command(sink, room, command.call_id, command.params.items())?;
         k += 1;
     }
     Ok(())
@@ -68,7 +67,7 @@ fn write_commands<K: Sink>(
 #[tactic(auto, using(gfx_section_law::proofs::Sizes::fixed_small), unfolding(gfx_model::specs::Spelling::fields_of))]
 fn write_begin<K: Sink>(
     sink: &mut K,
-    room: &mut Vec<u8>,
+    room: &mut Room,
     cb: u64,
     flags: u32,
 ) -> Result<(), StateFault>
@@ -84,7 +83,7 @@ fn write_begin<K: Sink>(
 
 // Writes that a buffer is ended.
 #[tactic(auto, using(gfx_section_law::proofs::Sizes::fixed_small), unfolding(gfx_model::specs::Spelling::fields_of))]
-fn write_end<K: Sink>(sink: &mut K, room: &mut Vec<u8>, cb: u64) -> Result<(), StateFault>
+fn write_end<K: Sink>(sink: &mut K, room: &mut Room, cb: u64) -> Result<(), StateFault>
     ensures { Wrote (K.taken sink.old) (K.taken sink.new) (K.faults sink.old) (K.faults sink.new) (EndCommandBuffer cb ∷ []) result }
 {
     write_effect(sink, room, &Effect::Call(Call::EndCommandBuffer { cb }))
@@ -92,9 +91,8 @@ fn write_end<K: Sink>(sink: &mut K, room: &mut Vec<u8>, cb: u64) -> Result<(), S
 
 // Writes that a recording or executable buffer is begun, and its commands.
 fn write_begun<K: Sink>(
-    alloc: Global,
     sink: &mut K,
-    room: &mut Vec<u8>,
+    room: &mut Room,
     recordings: &Recordings,
     cb: u64,
 ) -> Result<(), StateFault>
@@ -104,14 +102,13 @@ fn write_begun<K: Sink>(
         (BeginCommandBuffer cb (buffers recordings.now cb).flags ∷ (buffers recordings.now cb).commands) result }
 {
     write_begin(sink, room, cb, recordings.flags(cb))?;
-    write_commands(alloc, sink, room, recordings, cb)
+    write_commands(sink, room, recordings, cb)
 }
 
 // Writes a recording or executable buffer anew, and nothing of any other.
 fn write_recording<K: Sink>(
-    alloc: Global,
     sink: &mut K,
-    room: &mut Vec<u8>,
+    room: &mut Room,
     recordings: &Recordings,
     cb: u64,
 ) -> Result<(), StateFault>
@@ -119,9 +116,9 @@ fn write_recording<K: Sink>(
     ensures { Wrote (K.taken sink.old) (K.taken sink.new) (K.faults sink.old) (K.faults sink.new) (recorded_anew (buffers recordings.now) cb) result }
 {
     match recordings.state(cb) {
-        CbState::Recording => write_begun(alloc, sink, room, recordings, cb),
+        CbState::Recording => write_begun(sink, room, recordings, cb),
         CbState::Executable => {
-            write_begun(alloc, sink, room, recordings, cb)?;
+            write_begun(sink, room, recordings, cb)?;
             write_end(sink, room, cb)
         }
         CbState::Initial => Ok(()),
@@ -131,9 +128,8 @@ fn write_recording<K: Sink>(
 
 // Writes the buffers of a pool that are recording or executable.
 fn write_recordings<K: Sink>(
-    alloc: Global,
     sink: &mut K,
-    room: &mut Vec<u8>,
+    room: &mut Room,
     recordings: &Recordings,
     cbs: &[u64],
 ) -> Result<(), StateFault>
@@ -142,16 +138,15 @@ fn write_recordings<K: Sink>(
         (flat_map (recorded_anew (buffers recordings.now)) cbs.now) result }
 {
     'buffers: for cb in cbs {
-        write_recording(alloc, sink, room, recordings, *cb)?;
+        write_recording(sink, room, recordings, *cb)?;
     }
     Ok(())
 }
 
 // Writes the allocation of a pool's buffers, where it has some.
 fn write_allocation<K: Sink>(
-    alloc: Global,
     sink: &mut K,
-    room: &mut Vec<u8>,
+    room: &mut Room,
     device: u64,
     pool: u64,
     cbs: &[u64],
@@ -165,7 +160,7 @@ fn write_allocation<K: Sink>(
             let call = Call::AllocateCommandBuffers {
                 device,
                 pool,
-                buffers: ids_of(alloc, cbs)?,
+                buffers: ids_of(room.alloc, cbs)?,
             };
             write_effect(sink, room, &Effect::Call(call))
         }
@@ -174,9 +169,8 @@ fn write_allocation<K: Sink>(
 
 // Writes what stands behind the creation of a pool: its buffers, and what is recorded in them.
 fn write_buffers<K: Sink>(
-    alloc: Global,
     sink: &mut K,
-    room: &mut Vec<u8>,
+    room: &mut Room,
     objects: &Objects,
     recordings: &Recordings,
     device: u64,
@@ -187,33 +181,32 @@ fn write_buffers<K: Sink>(
         Wrote (K.taken sink.old) (K.taken sink.new) (K.faults sink.old) (K.faults sink.new)
         (section.allocate_event device pool cbs ++ flat_map (recorded_anew (buffers recordings.now)) cbs) result }
 {
-    let cbs = children_of(alloc, objects, Kind::CommandBuffer, pool)?;
-    write_allocation(alloc, sink, room, device, pool, &cbs)?;
-    write_recordings(alloc, sink, room, recordings, &cbs)
+    let cbs = children_of(room.alloc, objects, Kind::CommandBuffer, pool)?;
+    write_allocation(sink, room, device, pool, &cbs)?;
+    write_recordings(sink, room, recordings, &cbs)
 }
 
 /// Writes a pool with its buffers and what is recorded in them.
 #[tactic(auto, using(gfx_section_law::proofs::Sizes::fixed_small), unfolding(gfx_model::specs::Spelling::fields_of))]
 pub(crate) fn write_pool<K: Sink>(
-    alloc: Global,
     sink: &mut K,
-    room: &mut Vec<u8>,
+    room: &mut Room,
     objects: &Objects,
     recordings: &Recordings,
-    device: u64,
-    pool: u64,
+    owned: Owned,
     flags: u32,
 ) -> Result<(), StateFault>
     requires { CommandsFit (buffers recordings.now) }
-    ensures { let cbs = children_in (answers objects.now) kind.CommandBuffer pool in
+    ensures { let cbs = children_in (answers objects.now) kind.CommandBuffer owned.id in
         Wrote (K.taken sink.old) (K.taken sink.new) (K.faults sink.old) (K.faults sink.new)
-        (CreateCommandPool device pool flags ∷ section.allocate_event device pool cbs ++ flat_map (recorded_anew (buffers recordings.now)) cbs) result }
+        (CreateCommandPool owned.parent owned.id flags ∷ section.allocate_event owned.parent owned.id cbs
+        ++ flat_map (recorded_anew (buffers recordings.now)) cbs) result }
 {
     let call = Call::CreateCommandPool {
-        device,
-        pool,
+        device: owned.parent,
+        pool: owned.id,
         flags,
     };
     write_effect(sink, room, &Effect::Call(call))?;
-    write_buffers(alloc, sink, room, objects, recordings, device, pool)
+    write_buffers(sink, room, objects, recordings, owned.parent, owned.id)
 }

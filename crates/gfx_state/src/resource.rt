@@ -9,6 +9,9 @@ ghost use Rattle.gfx_state.specs.Known.{plain};
 ghost use Rattle.gfx_state.specs.Written.{Wrote};
 
 use crate::StateFault;
+use crate::owned::Owned;
+use crate::room::Room;
+use crate::shape::Shape;
 use crate::writer::{write_effect, write_init_image};
 use gfx_io::Sink;
 use gfx_objects::{Binding, Detail, Objects};
@@ -57,7 +60,7 @@ pub(crate) fn layout_of(objects: &Objects, image: u64) -> u32
 #[tactic(auto, using(gfx_section_law::proofs::Sizes::fixed_small), unfolding(gfx_model::specs::Spelling::fields_of))]
 fn write_buffer_binding<K: Sink>(
     sink: &mut K,
-    room: &mut Vec<u8>,
+    room: &mut Room,
     objects: &Objects,
     device: u64,
     buffer: u64,
@@ -83,7 +86,7 @@ fn write_buffer_binding<K: Sink>(
 #[tactic(auto, using(gfx_section_law::proofs::Sizes::fixed_small), unfolding(gfx_model::specs::Spelling::fields_of))]
 fn write_image_binding<K: Sink>(
     sink: &mut K,
-    room: &mut Vec<u8>,
+    room: &mut Room,
     objects: &Objects,
     device: u64,
     image: u64,
@@ -108,7 +111,7 @@ fn write_image_binding<K: Sink>(
 // Writes the layout of a usable image, where it isn't UNDEFINED.
 fn write_layout<K: Sink>(
     sink: &mut K,
-    room: &mut Vec<u8>,
+    room: &mut Room,
     objects: &Objects,
     image: u64,
 ) -> Result<(), StateFault>
@@ -129,52 +132,48 @@ fn write_layout<K: Sink>(
 #[tactic(auto, using(gfx_section_law::proofs::Sizes::fixed_small), unfolding(gfx_model::specs::Spelling::fields_of))]
 pub(crate) fn write_buffer<K: Sink>(
     sink: &mut K,
-    room: &mut Vec<u8>,
+    room: &mut Room,
     objects: &Objects,
-    device: u64,
-    buffer: u64,
+    owned: Owned,
     size: u64,
     usage: u32,
 ) -> Result<(), StateFault>
     ensures { Wrote (K.taken sink.old) (K.taken sink.new) (K.faults sink.old) (K.faults sink.new)
-        (CreateBuffer device buffer size usage ∷ bind_event (plain (answers objects.now)) (BindBufferMemory device buffer) buffer) result }
+        (CreateBuffer owned.parent owned.id size usage ∷ bind_event (plain (answers objects.now)) (BindBufferMemory owned.parent owned.id) owned.id) result }
 {
     let call = Call::CreateBuffer {
-        device,
-        buffer,
+        device: owned.parent,
+        buffer: owned.id,
         size,
         usage,
     };
     write_effect(sink, room, &Effect::Call(call))?;
-    write_buffer_binding(sink, room, objects, device, buffer)
+    write_buffer_binding(sink, room, objects, owned.parent, owned.id)
 }
 
 /// Writes an image, and its binding and its layout where it is usable.
 #[tactic(auto, using(gfx_section_law::proofs::Sizes::fixed_small), unfolding(gfx_model::specs::Spelling::fields_of))]
 pub(crate) fn write_image<K: Sink>(
     sink: &mut K,
-    room: &mut Vec<u8>,
+    room: &mut Room,
     objects: &Objects,
-    device: u64,
-    image: u64,
-    format: u32,
-    width: u32,
-    height: u32,
-    usage: u32,
+    owned: Owned,
+    shape: Shape,
 ) -> Result<(), StateFault>
     ensures { Wrote (K.taken sink.old) (K.taken sink.new) (K.faults sink.old) (K.faults sink.new)
-        (CreateImage device image format width height usage ∷ bind_event (plain (answers objects.now)) (BindImageMemory device image) image
-        ++ layout_event (plain (answers objects.now)) image) result }
+        (CreateImage owned.parent owned.id shape.format shape.width shape.height shape.usage
+        ∷ bind_event (plain (answers objects.now)) (BindImageMemory owned.parent owned.id) owned.id
+        ++ layout_event (plain (answers objects.now)) owned.id) result }
 {
     let call = Call::CreateImage {
-        device,
-        image,
-        format,
-        width,
-        height,
-        usage,
+        device: owned.parent,
+        image: owned.id,
+        format: shape.format,
+        width: shape.width,
+        height: shape.height,
+        usage: shape.usage,
     };
     write_effect(sink, room, &Effect::Call(call))?;
-    write_image_binding(sink, room, objects, device, image)?;
-    write_layout(sink, room, objects, image)
+    write_image_binding(sink, room, objects, owned.parent, owned.id)?;
+    write_layout(sink, room, objects, owned.id)
 }

@@ -17,6 +17,7 @@ ghost use Rattle.gfx_state.specs.Written.{Wrote, Counted};
 use crate::StateFault;
 use crate::object::write_object;
 use crate::parts::Parts;
+use crate::room::Room;
 use crate::writer::write_effect;
 use gfx_device::StateBytes;
 use gfx_io::Sink;
@@ -40,9 +41,8 @@ const ORDER: [Kind; 11] = [
 
 // Writes the live object of an id, where there is one.
 fn write_at<B: StateBytes, K: Sink>(
-    alloc: Global,
     sink: &mut K,
-    room: &mut Vec<u8>,
+    room: &mut Room,
     parts: &Parts<'_>,
     bytes: &B,
     id: u64,
@@ -54,16 +54,15 @@ fn write_at<B: StateBytes, K: Sink>(
     ensures counts { Counted (K.faults sink.old) (K.faults sink.new) result }
 {
     match parts.objects.get(id) {
-        Some(object) => write_object(alloc, sink, room, parts, bytes, id, *object),
+        Some(object) => write_object(sink, room, parts, bytes, id, *object),
         None => Ok(()),
     }
 }
 
 // Writes the live objects of a kind.
 fn write_kind<B: StateBytes, K: Sink>(
-    alloc: Global,
     sink: &mut K,
-    room: &mut Vec<u8>,
+    room: &mut Room,
     parts: &Parts<'_>,
     bytes: &B,
     kind: Kind,
@@ -76,7 +75,7 @@ fn write_kind<B: StateBytes, K: Sink>(
 {
     let mut after = 0;
     'ids: while let Some(id) = parts.objects.next(kind, after) {
-        write_at(alloc, sink, room, parts, bytes, id)?;
+        write_at(sink, room, parts, bytes, id)?;
         after = id;
     }
     Ok(())
@@ -84,9 +83,8 @@ fn write_kind<B: StateBytes, K: Sink>(
 
 // Writes the live objects of some kinds, kind by kind.
 fn write_kinds<B: StateBytes, K: Sink>(
-    alloc: Global,
     sink: &mut K,
-    room: &mut Vec<u8>,
+    room: &mut Room,
     parts: &Parts<'_>,
     bytes: &B,
     kinds: &[Kind],
@@ -98,14 +96,14 @@ fn write_kinds<B: StateBytes, K: Sink>(
     ensures counts { Counted (K.faults sink.old) (K.faults sink.new) result }
 {
     'kinds: for kind in kinds {
-        write_kind(alloc, sink, room, parts, bytes, *kind)?;
+        write_kind(sink, room, parts, bytes, *kind)?;
     }
     Ok(())
 }
 
 // Writes the begin marker.
 #[tactic(auto, using(gfx_section_law::proofs::Sizes::fixed_small), unfolding(gfx_model::specs::Spelling::fields_of))]
-fn write_begin<K: Sink>(sink: &mut K, room: &mut Vec<u8>, frame: u64) -> Result<(), StateFault>
+fn write_begin<K: Sink>(sink: &mut K, room: &mut Room, frame: u64) -> Result<(), StateFault>
     ensures { Wrote (K.taken sink.old) (K.taken sink.new) (K.faults sink.old) (K.faults sink.new) (BeginSection frame ∷ []) result }
 {
     write_effect(sink, room, &Effect::Marker { begin: true, frame })
@@ -113,7 +111,7 @@ fn write_begin<K: Sink>(sink: &mut K, room: &mut Vec<u8>, frame: u64) -> Result<
 
 // Writes the end marker.
 #[tactic(auto, using(gfx_section_law::proofs::Sizes::fixed_small), unfolding(gfx_model::specs::Spelling::fields_of))]
-fn write_end<K: Sink>(sink: &mut K, room: &mut Vec<u8>, frame: u64) -> Result<(), StateFault>
+fn write_end<K: Sink>(sink: &mut K, room: &mut Room, frame: u64) -> Result<(), StateFault>
     ensures { Wrote (K.taken sink.old) (K.taken sink.new) (K.faults sink.old) (K.faults sink.new) (EndSection frame ∷ []) result }
 {
     write_effect(
@@ -128,9 +126,8 @@ fn write_end<K: Sink>(sink: &mut K, room: &mut Vec<u8>, frame: u64) -> Result<()
 
 // Writes the markers and what stands between them.
 fn write_all<B: StateBytes, K: Sink>(
-    alloc: Global,
     sink: &mut K,
-    room: &mut Vec<u8>,
+    room: &mut Room,
     parts: &Parts<'_>,
     bytes: &B,
     frame: u64,
@@ -142,7 +139,7 @@ fn write_all<B: StateBytes, K: Sink>(
     ensures counts { Counted (K.faults sink.old) (K.faults sink.new) result }
 {
     write_begin(sink, room, frame)?;
-    write_kinds(alloc, sink, room, parts, bytes, &ORDER)?;
+    write_kinds(sink, room, parts, bytes, &ORDER)?;
     write_end(sink, room, frame)
 }
 
@@ -167,6 +164,9 @@ pub(crate) fn write_section<B: StateBytes, K: Sink>(
     ensures later { K.faults sink.old ≤ K.faults sink.new }
     ensures cause { result ≡ Err StateFault.SinkFault → Rose (K.faults sink.old) (K.faults sink.new) }
 {
-    let mut room = Vec::new(alloc);
-    write_all(alloc, sink, &mut room, parts, bytes, frame)
+    let mut room = Room {
+        alloc,
+        block: Vec::new(alloc),
+    };
+    write_all(sink, &mut room, parts, bytes, frame)
 }

@@ -23,7 +23,7 @@ use Rattle.gfx_text_grammar.proofs.FieldLaws.{without_front_some, without_front-
 use Rattle.gfx_text_grammar.proofs.EventLaws.{read_is_shown, shown_is_read}
 use Rattle.gfx_text_grammar.proofs.Graphic.{are_graphic, graphic-append, decimal_graphic, field_graphic, letters_graphic}
 use Rattle.gfx_text_grammar.proofs.SplitLaws.{tokens_again}
-use Rattle.gfx_text_grammar.proofs.BlockLaws.{payload_all}
+use Rattle.gfx_grammar.proofs.ByteLaws.{payload_all}
 use Rattle.gfx_text_grammar.proofs.SkippedLaws.{or_else_some, made_line, of_block, not_skipped}
 use Rattle.gfx_text_grammar.proofs.StyleLaws.{numbered_style, name_letters, fields_named}
 use Rattle.gfx_text_grammar.proofs.SpellingLaws.{text-spelling, spelling-text}

@@ -28,7 +28,7 @@ use Rattle.gfx_text_grammar.proofs.ValueLaws.{reads_u32}
 use Rattle.gfx_text_grammar.proofs.FieldLaws.{whole_takes, whole_again, without_front_some, without_front-same}
 use Rattle.gfx_text_grammar.proofs.Graphic.{are_graphic, graphic-append, decimal_graphic}
 use Rattle.gfx_text_grammar.proofs.SplitLaws.{tokens_takes, tokens_again, each_takes, each_again, join_no_feed}
-use Rattle.gfx_text_grammar.proofs.BlockLaws.{are_bytes, le32_bytes, both_bytes, AllBytes}
+use Rattle.gfx_grammar.proofs.ByteLaws.{are_bytes, le32_bytes, both_bytes, AllBytes}
 use Rattle.gfx_text_grammar.proofs.Lists.{same_list-true}
 use Rattle.gfx_model.specs.Limits.{max_options}
 

@@ -11,7 +11,8 @@ use Rattle.gfx_grammar.proofs.ContentLaws.{read_is_content}
 use Rattle.gfx_text_grammar.specs.Splits.{is_without, tokens_of}
 use Rattle.gfx_text_grammar.specs.Lines.{read_line, HasLine}
 use Rattle.gfx_text_grammar.proofs.SplitLaws.{tokens_takes, join_no_feed}
-use Rattle.gfx_text_grammar.proofs.BlockLaws.{block-fields, block-parts}
+use Rattle.gfx_grammar.proofs.WrittenLaws.{block-fields}
+use Rattle.gfx_text_grammar.proofs.BlockLaws.{block-parts}
 use Rattle.gfx_text_grammar.proofs.SkippedLaws.{or_else_some, skipped_takes, skipped_line, skipped_no_feed}
 use Rattle.gfx_text_grammar.proofs.EventLineLaws.{marker_takes, threaded_takes, event_line, event_fields, event_tokens, words_graphic}
 use Rattle.gfx_text_grammar.proofs.SpellingLaws.{spelling-text}
@@ -36,8 +37,8 @@ line_of : (m kind : ℕ) (load : List ℕ) (c : Content) → AreBytes load → l
     → read_line m (block_text m (block_bytes kind load) c) ≡ Some (record { bytes = block_bytes kind load; content = c })
 line_of m kind load skipped fit small high is =
     let fields = block-fields kind load high small in
-    ap (λ (z : List ℕ). read_line m (skipped_text (type_field (block_bytes kind load)) z)) fields.1
-    ∙ ap (λ n. read_line m (skipped_text n load)) fields.0
+    ap (λ (z : List ℕ). read_line m (skipped_text (type_field (block_bytes kind load)) z)) fields.2
+    ∙ ap (λ n. read_line m (skipped_text n load)) fields.1
     ∙ skipped_line m kind load fit small is
 line_of m kind load (effect t e) fit small high s = event_line m kind t load e s small
 

@@ -22,7 +22,7 @@ use Rattle.gfx_text_grammar.specs.Splits.{is_without, whole_lines, each_read}
 use Rattle.gfx_text_grammar.specs.Lines.{read_line}
 use Rattle.gfx_text_grammar.specs.Listings.{read_header, Listed, file_of, blocks_in, has_room, if_room, read_lines, read_listing}
 use Rattle.gfx_text_grammar.proofs.SplitLaws.{lines_takes, lines_again, each_takes, each_again}
-use Rattle.gfx_text_grammar.proofs.BlockLaws.{are_bytes, both_bytes, AllBytes}
+use Rattle.gfx_grammar.proofs.ByteLaws.{are_bytes, both_bytes, AllBytes}
 use Rattle.gfx_text_grammar.proofs.HeaderLaws.{header_takes, header_again, header_no_feed}
 use Rattle.gfx_text_grammar.proofs.LineLaws.{line_takes, line_again, line_no_feed}
 use Rattle.gfx_text_grammar.proofs.Lists.{all_parts}

@@ -26,7 +26,8 @@ use Rattle.gfx_text_grammar.proofs.ValueLaws.{reads_raw}
 use Rattle.gfx_text_grammar.proofs.FieldLaws.{named_takes, named_again}
 use Rattle.gfx_text_grammar.proofs.Graphic.{are_graphic, graphic-append, letters_graphic}
 use Rattle.gfx_text_grammar.proofs.SplitLaws.{tokens_again, no_feed, without-append}
-use Rattle.gfx_text_grammar.proofs.BlockLaws.{are_bytes, le32_bytes, block_all, block-fields, both_bytes, AllBytes}
+use Rattle.gfx_grammar.proofs.ByteLaws.{are_bytes, le32_bytes, block_all, both_bytes, AllBytes}
+use Rattle.gfx_grammar.proofs.WrittenLaws.{block-fields}
 use Rattle.gfx_text_grammar.proofs.Lists.{same_list-true}
 use Rattle.gfx_model.specs.Limits.{max_payload}
 
@@ -75,7 +76,7 @@ skipped_made m k bs line p low high fit is same made =
     let load = skipped_payload k bs in
     made_line m k load skipped p line low high fit (λ small.
     let fields = block-fields k load high small in
-    (is, same ∙ ap (skipped_text k) (sym fields.1) ∙ ap (λ n. skipped_text n (payload_field (block_bytes k load))) (sym fields.0))) made
+    (is, same ∙ ap (skipped_text k) (sym fields.2) ∙ ap (λ n. skipped_text n (payload_field (block_bytes k load))) (sym fields.1))) made
 
 pub skipped_takes : (m : ℕ) (tokens : List (List ℕ)) (p : Part) → read_skipped tokens ≡ Some p → HasLine m p (join_with_byte 32 tokens)
 unfolding read_skipped

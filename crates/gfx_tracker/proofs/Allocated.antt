@@ -16,6 +16,7 @@ use Rattle.gfx_model.specs.Table.{place_of, row_of, checks_of}
 use Rattle.gfx_model.specs.Effects.{effect_of}
 use Rattle.gfx_model.specs.After.{after}
 use Rattle.gfx_model.proofs.Covered.{unless_none}
+use Rattle.gfx_model.specs.Limits.{max_list_length}
 use Rattle.gfx_laws.specs.Lawful.{IsLawful}
 use Rattle.gfx_laws.proofs.Ready.{AllReady, AllRoom}
 use Rattle.gfx_laws.proofs.NewObjects.{all_pass}
@@ -53,11 +54,11 @@ allocates_some v device pool buffers next =
     let all = all_pass v (checks_of (AllocateCommandBuffers device pool buffers)) next.passes in
     leb-true 1 (length buffers) (unless_none _ _ all.1.1.1.0)
 
-pub allocates_few : (v : View) (device pool : ℕ) (buffers : List ℕ) → IsNext v (AllocateCommandBuffers device pool buffers) → length buffers ≤ 65536
+pub allocates_few : (v : View) (device pool : ℕ) (buffers : List ℕ) → IsNext v (AllocateCommandBuffers device pool buffers) → length buffers ≤ max_list_length
 unfolding place_of row_of id_of broken
 allocates_few v device pool buffers next =
     let all = all_pass v (checks_of (AllocateCommandBuffers device pool buffers)) next.passes in
-    leb-true (length buffers) 65536 (unless_none _ _ all.1.1.1.1.0)
+    leb-true (length buffers) max_list_length (unless_none _ _ all.1.1.1.1.0)
 
 pub after_allocated : (v : View) (device pool : ℕ) (buffers : List ℕ) → IsNext v (AllocateCommandBuffers device pool buffers) → fold after v (allocations pool buffers) ≡ after_event v (AllocateCommandBuffers device pool buffers)
 unfolding effect_of

@@ -35,7 +35,7 @@ one_kind j k None a b = absurd cc
 one_kind j k (Some o) a b = sym (eqb-true (kind_number (kind_of o.detail)) (kind_number j) a) ∙ eqb-true (kind_number (kind_of o.detail)) (kind_number k) b
 
 -- objects of two kinds are two
-apart : (v : View) (j k : Kind) (x y : ℕ) → (kind_number j == kind_number k) ≡ false → is_live v j x ≡ true → is_live v k y ≡ true → (x == y) ≡ false
+pub apart : (v : View) (j k : Kind) (x y : ℕ) → (kind_number j == kind_number k) ≡ false → is_live v j x ≡ true → is_live v k y ≡ true → (x == y) ≡ false
 apart v j k x y differ a b = by (x == y) refl
   where
     by : (t : Bool) → (x == y) ≡ t → t ≡ false

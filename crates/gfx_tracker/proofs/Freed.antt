@@ -10,9 +10,9 @@ use Rattle.std.proofs.lemmas.List.{length-map}
 use Rattle.gfx_types.specs.declared.names.Kind.TheVariants as kind
 use Rattle.gfx_model.specs.Events.Event.{FreeCommandBuffers}
 use Rattle.gfx_model.specs.Spelling.{id_of}
-use Rattle.gfx_model.specs.Steps.{Object, kind_of, kind_number}
+use Rattle.gfx_model.specs.Steps.{Object}
 use Rattle.gfx_model.specs.Steps.Step.{taken, ends}
-use Rattle.gfx_model.specs.Questions.{passes, is_owned, after_end}
+use Rattle.gfx_model.specs.Questions.{is_owned, after_end}
 use Rattle.gfx_model.specs.Views.{View, is_live, parent_of}
 use Rattle.gfx_model.specs.Checks.{broken, is_among}
 use Rattle.gfx_model.specs.Checks.Check.{of}
@@ -29,6 +29,7 @@ use Rattle.gfx_laws.proofs.EventReady.{event_ready}
 use Rattle.gfx_laws.proofs.EventRoom.{event_room}
 use Rattle.gfx_tracker.specs.Taking.{IsNext, after_event}
 use Rattle.gfx_tracker.proofs.LawfulEvents.{without_changes}
+use Rattle.gfx_tracker.proofs.EndedUsers.{apart}
 use Rattle.gfx_tracker.proofs.Next.{absorbed, is_live_by, live_some, after_some}
 
 -- each of these is live when its turn to end comes
@@ -40,18 +41,6 @@ pub live_at : (v : View) (xs : List ℕ) (k : ℕ) → k < length xs → AllLive
 live_at v [] k below all = absurd (omega arith)
 live_at v (x ∷ xs) zero below all = all.0
 live_at v (x ∷ xs) (suc k) below all = live_at (after v (ends x)) xs k (omega arith) all.1
-
--- a pool is no command buffer
-one_kind : (o : Option Object) → passes (λ o. kind_number (kind_of o.detail) == 9) o ≡ true → passes (λ o. kind_number (kind_of o.detail) == 8) o ≡ true → ⊥
-one_kind None a b = cc
-one_kind (Some o) a b = let x = eqb-true (kind_number (kind_of o.detail)) 9 a in let y = eqb-true (kind_number (kind_of o.detail)) 8 b in omega (arith, x, y)
-
-pool_apart : (v : View) (x pool : ℕ) → is_live v kind.CommandBuffer x ≡ true → is_live v kind.Pool pool ≡ true → (x == pool) ≡ false
-pool_apart v x pool a b = by (x == pool) refl
-  where
-    by : (t : Bool) → (x == pool) ≡ t → t ≡ false
-    by true same = absurd (one_kind (v.live pool) (ap (is_live v kind.CommandBuffer) (sym (eqb-true x pool same)) ∙ a) b)
-    by false other = refl
 
 -- an object of a pool that is another than the one that ends
 beside : (x y pool : ℕ) (o : Option Object) → (x == y) ≡ false → (x == pool) ≡ false → option_map_or (λ o. o.parent) o 0 ≡ pool → after_end x y o ≡ o
@@ -87,7 +76,7 @@ freed : (v w : View) (pool : ℕ) (earlier xs : List ℕ) → is_live v kind.Poo
 freed v w pool earlier [] there left a b = tt
 freed v w pool earlier (x ∷ xs) there left a b = (
   ap is_some (left x (once v earlier x xs a) (parent_by v x pool b.0)) ∙ live_some v kind.CommandBuffer x a.0,
-  freed v (after w (ends x)) pool (x ∷ earlier) xs there (left_after v w pool earlier x (pool_apart v x pool (is_live_by v kind.CommandBuffer x a.0) there) left) a.1.1 b.1,
+  freed v (after w (ends x)) pool (x ∷ earlier) xs there (left_after v w pool earlier x (apart v kind.CommandBuffer kind.Pool x pool refl (is_live_by v kind.CommandBuffer x a.0) there) left) a.1.1 b.1,
 )
 
 pub frees_live : (v : View) (device pool : ℕ) (buffers : List ℕ) → IsNext v (FreeCommandBuffers device pool buffers) → AllLive v buffers

@@ -20,6 +20,7 @@ use Rattle.gfx_model.specs.Table.{place_of, row_of, checks_of, is_positive}
 use Rattle.gfx_model.specs.Effects.{marks}
 use Rattle.gfx_model.specs.After.{after}
 use Rattle.gfx_model.proofs.Covered.{unless_none}
+use Rattle.gfx_model.specs.Limits.{max_swapchain_images, max_extent}
 use Rattle.gfx_laws.specs.Lawful.{IsLawful, is_allowed}
 use Rattle.gfx_laws.proofs.NewObjects.{all_pass}
 use Rattle.gfx_tracker.specs.Taking.{IsNext}
@@ -61,8 +62,8 @@ few_images v swapchain h = by (v.live swapchain) refl
   where
     at : (d : Detail) → is_allowed d ≡ true → detail_images d ≤ 16
     at (a_swapchain surface images format width height usage) e =
-        let limits = (and_parts (is_positive images && is_positive width && is_positive height && is_positive usage && is_some (format_of format)) (nat_le images 16 && nat_le width 4096 && nat_le height 4096) e).1 in
-        leb-true images 16 (and_parts (nat_le images 16) (nat_le width 4096) (and_parts (nat_le images 16 && nat_le width 4096) (nat_le height 4096) limits).0).0
+        let limits = (and_parts (is_positive images && is_positive width && is_positive height && is_positive usage && is_some (format_of format)) (nat_le images max_swapchain_images && nat_le width max_extent && nat_le height max_extent) e).1 in
+        leb-true images max_swapchain_images (and_parts (nat_le images max_swapchain_images) (nat_le width max_extent) (and_parts (nat_le images max_swapchain_images && nat_le width max_extent) (nat_le height max_extent) limits).0).0
     at _ e = omega arith
 
     by : (o : Option Object) → v.live swapchain ≡ o → option_map_or (λ o. detail_images o.detail) o 0 ≤ 16
@@ -75,7 +76,7 @@ some_images v swapchain live h = by (v.live swapchain) refl live
   where
     at : (d : Detail) → (kind_number (kind_of d) == 12) ≡ true → is_allowed d ≡ true → 1 ≤ detail_images d
     at (a_swapchain surface images format width height usage) k e =
-        let all = (and_parts (is_positive images && is_positive width && is_positive height && is_positive usage && is_some (format_of format)) (nat_le images 16 && nat_le width 4096 && nat_le height 4096) e).0 in
+        let all = (and_parts (is_positive images && is_positive width && is_positive height && is_positive usage && is_some (format_of format)) (nat_le images max_swapchain_images && nat_le width max_extent && nat_le height max_extent) e).0 in
         let four = (and_parts (is_positive images && is_positive width && is_positive height && is_positive usage) (is_some (format_of format)) all).0 in
         let three = (and_parts (is_positive images && is_positive width && is_positive height) (is_positive usage) four).0 in
         let two = (and_parts (is_positive images && is_positive width) (is_positive height) three).0 in

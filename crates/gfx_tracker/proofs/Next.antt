@@ -25,6 +25,7 @@ use Rattle.gfx_model.specs.Table.{checks_of, is_positive, to_signal, acquire_ans
 use Rattle.gfx_model.specs.Effects.{effect_of, signals_any, image_bytes_put}
 use Rattle.gfx_model.specs.After.{after}
 use Rattle.gfx_model.proofs.Covered.{unless_none}
+use Rattle.gfx_model.specs.Limits.{max_swapchain_images, max_extent, max_live_bytes}
 use Rattle.gfx_laws.specs.Lawful.{IsLawful, Passes, is_allowed, has_signal}
 use Rattle.gfx_laws.proofs.Ready.{AllReady, AllRoom, HasBytes}
 use Rattle.gfx_laws.proofs.EventReady.{event_ready}
@@ -59,12 +60,12 @@ after_none v e is = ap (fold after (after v taken)) (sym is)
 
 pub allowed_within : (d : Detail) → is_allowed d ≡ true → is_within d ≡ true
 allowed_within (an_image format width height usage index) e =
-    (and_parts (is_some (format_of format) && is_positive width && is_positive height && is_positive usage) (nat_le width 4096 && nat_le height 4096) e).1
+    (and_parts (is_some (format_of format) && is_positive width && is_positive height && is_positive usage) (nat_le width max_extent && nat_le height max_extent) e).1
 allowed_within (a_swapchain surface images format width height usage) e =
-    (and_parts (is_positive images && is_positive width && is_positive height && is_positive usage && is_some (format_of format)) (nat_le images 16 && nat_le width 4096 && nat_le height 4096) e).1
+    (and_parts (is_positive images && is_positive width && is_positive height && is_positive usage && is_some (format_of format)) (nat_le images max_swapchain_images && nat_le width max_extent && nat_le height max_extent) e).1
 allowed_within _ e = refl
 
-pub bytes_of_room : (v : View) (d : Detail) → live_bytes v ≤ 2 ^ 28 → HasBytes v d → live_bytes v + detail_bytes d ≤ 2 ^ 28
+pub bytes_of_room : (v : View) (d : Detail) → live_bytes v ≤ max_live_bytes → HasBytes v d → live_bytes v + detail_bytes d ≤ max_live_bytes
 bytes_of_room v (a_memory size) few room = room
 bytes_of_room v (a_swapchain surface images format width height usage) few room = room
 bytes_of_room v _ few room = omega arith

@@ -19,6 +19,7 @@ use Rattle.gfx_model.proofs.Covered.{unless_none}
 use Rattle.gfx_model.proofs.Lists.{all_along}
 use Rattle.gfx_laws.specs.Lawful.{Passes, has_signal}
 use Rattle.gfx_model.specs.Questions.{passes}
+use Rattle.gfx_model.specs.Limits.{max_frame}
 use Rattle.gfx_laws.proofs.Lists.{all_before, all_behind, all_zip}
 use Rattle.gfx_laws.proofs.NewObjects.{all_pass}
 use Rattle.gfx_tracker.specs.Taking.{IsNext, HasSignal, HasIndex}
@@ -51,7 +52,7 @@ waits_unsignal v (s ∷ ss) = ap (λ steps. unsignals s ∷ steps) (waits_unsign
 pub record PresentFacts (v : View) (waits : List ℕ) (ps : List Present) : Type 0 where
   pub waited : AllByRecursion (λ x. Passes v (live kind.Semaphore x)) waits
   pub shown : AllByRecursion (HasIndex v) ps
-  pub frame : v.next_frame ≤ 2 ^ 62
+  pub frame : v.next_frame ≤ max_frame
 
 pub present_facts : (v : View) (queue : ℕ) (waits : List ℕ) (ps : List Present) → IsNext v (QueuePresentKHR queue waits ps) → PresentFacts v waits ps
 unfolding place_of row_of id_of broken
@@ -80,5 +81,5 @@ present_facts v queue waits ps next =
       waited = all_from_map (Passes v) (live kind.Semaphore) waits (all_before (Passes v) (map (live kind.Semaphore) waits) _ at_w);
       shown = all_zip (λ p. Passes v (live kind.Swapchain p.swapchain)) (λ p. Passes v (index_in p.swapchain p.index)) (HasIndex v)
           (λ p a b. record { live = is_live_by v kind.Swapchain p.swapchain a; below = index_below v p.swapchain p.index b }) ps lives indices;
-      frame = leb-true v.next_frame (2 ^ 62) (unless_none _ _ at_t.1.0);
+      frame = leb-true v.next_frame max_frame (unless_none _ _ at_t.1.0);
     }

@@ -20,6 +20,7 @@ use Rattle.gfx_model.specs.Table.{place_of, row_of, checks_of, divides}
 use Rattle.gfx_model.specs.Effects.{effect_of}
 use Rattle.gfx_model.specs.After.{after}
 use Rattle.gfx_model.proofs.Covered.{unless_none}
+use Rattle.gfx_model.specs.Limits.{max_kept_commands, max_kept_bytes, max_regions, max_barriers, max_update}
 use Rattle.gfx_laws.specs.Lawful.{IsLawful, IsRising, Passes, cb_of, command_checks}
 use Rattle.gfx_laws.specs.Laws.{is_command}
 use Rattle.gfx_laws.proofs.Lists.{all_before, all_behind}
@@ -76,15 +77,15 @@ after_command v c is = after_one v c (records (cb_of c) c) (effect_of-command v 
 
 few : (v : View) (c : Event) → is_command c ≡ true → AllByRecursion (Passes v) (command_checks c) → items_in c < 2 ^ 32
 unfolding broken
-few v (CmdPipelineBarrier cb barriers) e a = let n = leb-true (length barriers) 256 (unless_none _ _ a.1.0) in omega (arith, n)
+few v (CmdPipelineBarrier cb barriers) e a = let n = leb-true (length barriers) max_barriers (unless_none _ _ a.1.0) in omega (arith, n)
 few v (CmdFillBuffer cb buffer offset size word) e a = omega arith
 few v (CmdUpdateBuffer cb buffer offset bytes) e a =
-    let n = leb-true (length bytes) 65536 (and_parts (divides 4 offset && divides 4 (length bytes) && nat_le 4 (length bytes)) (nat_le (length bytes) 65536) (unless_none _ _ a.1.1.1.1.0)).1 in
+    let n = leb-true (length bytes) max_update (and_parts (divides 4 offset && divides 4 (length bytes) && nat_le 4 (length bytes)) (nat_le (length bytes) max_update) (unless_none _ _ a.1.1.1.1.0)).1 in
     omega (arith, n)
-few v (CmdCopyBuffer cb source target regions) e a = let n = leb-true (length regions) 256 (unless_none _ _ a.1.1.1.1.1.1.1.1.1.0) in omega (arith, n)
-few v (CmdCopyImage cb source source_layout target target_layout regions) e a = let n = leb-true (length regions) 256 (unless_none _ _ a.1.1.1.1.1.1.1.1.1.1.1.0) in omega (arith, n)
-few v (CmdCopyBufferToImage cb source target layout regions) e a = let n = leb-true (length regions) 256 (unless_none _ _ a.1.1.1.1.1.1.1.1.1.1.0) in omega (arith, n)
-few v (CmdCopyImageToBuffer cb source layout target regions) e a = let n = leb-true (length regions) 256 (unless_none _ _ a.1.1.1.1.1.1.1.1.1.1.0) in omega (arith, n)
+few v (CmdCopyBuffer cb source target regions) e a = let n = leb-true (length regions) max_regions (unless_none _ _ a.1.1.1.1.1.1.1.1.1.0) in omega (arith, n)
+few v (CmdCopyImage cb source source_layout target target_layout regions) e a = let n = leb-true (length regions) max_regions (unless_none _ _ a.1.1.1.1.1.1.1.1.1.1.1.0) in omega (arith, n)
+few v (CmdCopyBufferToImage cb source target layout regions) e a = let n = leb-true (length regions) max_regions (unless_none _ _ a.1.1.1.1.1.1.1.1.1.1.0) in omega (arith, n)
+few v (CmdCopyImageToBuffer cb source layout target regions) e a = let n = leb-true (length regions) max_regions (unless_none _ _ a.1.1.1.1.1.1.1.1.1.1.0) in omega (arith, n)
 few v (CmdClearColorImage cb image layout c0 c1 c2 c3) e a = omega arith
 few v _ e a = absurd cc
 
@@ -102,12 +103,12 @@ rising_distinct (x ∷ xs) rising = and_from _ _ (by (is_among x xs) refl) (risi
     by true e = let low = above_each x x xs rising.0 e in absurd (omega (arith, low))
     by false e = refl
 
-room : (v : View) (c : Event) → is_command c ≡ true → IsNext v c → (commands_kept v + 1 ≤ 2 ^ 20) × (bytes_kept v + length (spelling 1 c) ≤ 2 ^ 28)
+room : (v : View) (c : Event) → is_command c ≡ true → IsNext v c → (commands_kept v + 1 ≤ max_kept_commands) × (bytes_kept v + length (spelling 1 c) ≤ max_kept_bytes)
 unfolding broken
 room v c is next =
     let last : AllByRecursion (Passes v) (fits (length (spelling 1 c)) ∷ []) = all_behind (Passes v) (front c) (fits (length (spelling 1 c)) ∷ []) (row_passes v c is next) in
-    let both = and_parts (nat_le (commands_kept v + 1) (2 ^ 20)) (nat_le (bytes_kept v + length (spelling 1 c)) (2 ^ 28)) (unless_none _ _ last.0) in
-    (leb-true (commands_kept v + 1) (2 ^ 20) both.0, leb-true (bytes_kept v + length (spelling 1 c)) (2 ^ 28) both.1)
+    let both = and_parts (nat_le (commands_kept v + 1) max_kept_commands) (nat_le (bytes_kept v + length (spelling 1 c)) max_kept_bytes) (unless_none _ _ last.0) in
+    (leb-true (commands_kept v + 1) max_kept_commands both.0, leb-true (bytes_kept v + length (spelling 1 c)) max_kept_bytes both.1)
 
 module _ (v : View) (m : FinMap nat_cmp Recording) (same : v.buffer ≡ buffers m) where
   holds : IsLawful v [] → HoldsKept (buffers m) v.ids
@@ -121,8 +122,8 @@ module _ (v : View) (m : FinMap nat_cmp Recording) (same : v.buffer ≡ buffers 
   bytes_same : IsLawful v [] → bytes_kept v ≡ bytes_total m
   bytes_same h = ap (λ b. sum_by (λ x. bytes_in (b x)) v.ids) same ∙ bytes_among m v.ids (rising_distinct v.ids (h.ids).rising) (holds h)
 
-  pub commands_room : (c : Event) → is_command c ≡ true → IsNext v c → commands_total m + 1 ≤ 2 ^ 20
-  commands_room c is next = subst (λ n. n + 1 ≤ 2 ^ 20) (∥∥₁_elim next.lawful (hlevel props) commands_same) (room v c is next).0
+  pub commands_room : (c : Event) → is_command c ≡ true → IsNext v c → commands_total m + 1 ≤ max_kept_commands
+  commands_room c is next = subst (λ n. n + 1 ≤ max_kept_commands) (∥∥₁_elim next.lawful (hlevel props) commands_same) (room v c is next).0
 
-  pub bytes_room : (c : Event) → is_command c ≡ true → IsNext v c → bytes_total m + length (spelling 1 c) ≤ 2 ^ 28
-  bytes_room c is next = subst (λ n. n + length (spelling 1 c) ≤ 2 ^ 28) (∥∥₁_elim next.lawful (hlevel props) bytes_same) (room v c is next).1
+  pub bytes_room : (c : Event) → is_command c ≡ true → IsNext v c → bytes_total m + length (spelling 1 c) ≤ max_kept_bytes
+  bytes_room c is next = subst (λ n. n + length (spelling 1 c) ≤ max_kept_bytes) (∥∥₁_elim next.lawful (hlevel props) bytes_same) (room v c is next).1

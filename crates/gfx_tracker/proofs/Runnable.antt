@@ -7,13 +7,12 @@ use Rattle.std.proofs.lemmas.Bool.{both_ways}
 use Rattle.gfx_types.specs.declared.names.Fault.{Fault}
 use Rattle.gfx_types.specs.declared.names.Kind.TheVariants as kind
 use Rattle.gfx_model.specs.Events.{Event}
-use Rattle.gfx_model.specs.Events.Event.{CmdPipelineBarrier, CmdFillBuffer, CmdUpdateBuffer, CmdCopyBuffer, CmdCopyImage, CmdCopyBufferToImage, CmdCopyImageToBuffer, CmdClearColorImage}
 use Rattle.gfx_model.specs.Views.{View, is_live}
 use Rattle.gfx_model.specs.Questions.{State, is_kept}
 use Rattle.gfx_model.specs.Checks.{Check, is_executable}
 use Rattle.gfx_model.proofs.Lists.{all_along}
-use Rattle.gfx_laws.specs.Lawful.{base, IsLawful, LawfulObjects, IsCommandOf, Passes, CommandPasses, cb_of}
-use Rattle.gfx_laws.specs.Laws.{is_command}
+use Rattle.gfx_laws.specs.Lawful.{base, IsLawful, LawfulObjects, IsCommandOf, Passes, CommandPasses}
+use Rattle.gfx_laws.proofs.KeptCommands.{command_of_buffer}
 use Rattle.gfx_laws.proofs.Lists.{all_of}
 use Rattle.gfx_laws.proofs.LastingChecks.{SameAt, command_along}
 use Rattle.gfx_laws.proofs.MoreObjects.{live_of_kind}
@@ -25,18 +24,6 @@ executable_kept State.executable e = refl
 executable_kept State.recording e = absurd cc
 executable_kept State.initial e = absurd cc
 executable_kept State.invalid e = absurd cc
-
--- what has a command buffer is a command
-command_of_buffer : (c : Event) → (cb_of c ≡ 0 → ⊥) → is_command c ≡ true
-command_of_buffer (CmdPipelineBarrier cb barriers) e = refl
-command_of_buffer (CmdFillBuffer cb buffer offset size word) e = refl
-command_of_buffer (CmdUpdateBuffer cb buffer offset bytes) e = refl
-command_of_buffer (CmdCopyBuffer cb source target regions) e = refl
-command_of_buffer (CmdCopyImage cb source source_layout target target_layout regions) e = refl
-command_of_buffer (CmdCopyBufferToImage cb source target layout regions) e = refl
-command_of_buffer (CmdCopyImageToBuffer cb source layout target regions) e = refl
-command_of_buffer (CmdClearColorImage cb image layout c0 c1 c2 c3) e = refl
-command_of_buffer _ e = absurd (e refl)
 
 -- a command of a live buffer, where objects and bindings are those of w
 runs : (v w : View) → base v ≡ base w → LawfulObjects (base v) → (cb : ℕ) → is_live v kind.CommandBuffer cb ≡ true → (c : Event) → IsCommandOf (base v) cb c → IsRunnable w c

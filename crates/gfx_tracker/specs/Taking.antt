@@ -10,6 +10,7 @@ use Rattle.gfx_model.specs.Checks.{first_broken}
 use Rattle.gfx_model.specs.Table.{checks_of}
 use Rattle.gfx_model.specs.Effects.{steps_of}
 use Rattle.gfx_model.specs.After.{after}
+use Rattle.gfx_model.specs.Limits.{max_live_bytes, max_live_objects}
 use Rattle.gfx_laws.specs.Lawful.{IsLawful, has_signal}
 use Rattle.gfx_objects.specs.Object.{is_within}
 
@@ -28,8 +29,8 @@ pub record MayCreate (v : View) (id : ℕ) (d : Detail) : Type 0 where
   pub unused : v.used id ≡ false
   pub fresh : is_some (v.live id) ≡ false
   pub within : is_within d ≡ true
-  pub room : object_count v < 65536
-  pub bytes : live_bytes v + detail_bytes d ≤ 2 ^ 28
+  pub room : object_count v < max_live_objects
+  pub bytes : live_bytes v + detail_bytes d ≤ max_live_bytes
 
 -- a live buffer or image, and a live memory inside which it ends from this offset on
 pub record MayBind (v : View) (id memory offset : ℕ) : Type 0 where

@@ -7,6 +7,7 @@ ghost use Rattle.gfx_model.specs.Steps.Change.{set_layout};
 ghost use Rattle.gfx_model.specs.Views as view;
 ghost use Rattle.gfx_model.specs.After.{after};
 ghost use Rattle.gfx_model.specs.Questions.{passes};
+ghost use Rattle.gfx_model.specs.Limits.{max_live_bytes, max_live_objects};
 ghost use Rattle.gfx_laws.specs.Lawful.{has_signal};
 ghost use Rattle.gfx_objects.specs.Object.{detail_of, IsNew, is_within};
 ghost use Rattle.gfx_tracker.specs.Registered.{IsRegistered, images_of, with_signal, without_signal, with_images, without_images};
@@ -55,8 +56,8 @@ impl Registry {
         requires fresh { is_some ((answers_of self.old).live id) ≡ false }
         requires new { IsNew detail }
         requires within { is_within (detail_of detail) ≡ true }
-        requires room { view.object_count (answers_of self.old) < 65536 }
-        requires bytes { view.live_bytes (answers_of self.old) + view.detail_bytes (detail_of detail) ≤ 2 ^ 28 }
+        requires room { view.object_count (answers_of self.old) < max_live_objects }
+        requires bytes { view.live_bytes (answers_of self.old) + view.detail_bytes (detail_of detail) ≤ max_live_bytes }
         ensures ok { OnOk result (answers_of self.new ≡ after (answers_of self.old) (creates id parent (detail_of detail))) }
         ensures err { OnErr result (answers_of self.new ≡ answers_of self.old) }
     {
@@ -75,8 +76,8 @@ impl Registry {
         requires within { is_within (detail_of detail) ≡ true }
         requires plain { has_signal (detail_of detail) ≡ false }
         requires bare { images_of (detail_of detail) ≡ None }
-        requires room { view.object_count (answers_of self.old) < 65536 }
-        requires bytes { view.live_bytes (answers_of self.old) + view.detail_bytes (detail_of detail) ≤ 2 ^ 28 }
+        requires room { view.object_count (answers_of self.old) < max_live_objects }
+        requires bytes { view.live_bytes (answers_of self.old) + view.detail_bytes (detail_of detail) ≤ max_live_bytes }
         requires spare { 1 ≤ self.old.objects.spare }
         ensures step { answers_of self.new ≡ after (answers_of self.old) (creates id parent (detail_of detail)) }
         ensures spare { self.new.objects.spare + 1 ≡ self.old.objects.spare }

@@ -9,6 +9,7 @@ ghost use Rattle.gfx_model.specs.Questions.{passes, new_buffer};
 ghost use Rattle.gfx_model.specs.Checks.{is_recording};
 ghost use Rattle.gfx_model.specs.Views as view;
 ghost use Rattle.gfx_model.specs.After.{after, is_gone, buffer_after_end};
+ghost use Rattle.gfx_model.specs.Limits.{max_frame, max_kept_bytes, max_kept_commands};
 ghost use Rattle.gfx_objects.specs.Object.{detail_of, IsNew};
 ghost use Rattle.gfx_objects.specs.Objects.{answers};
 ghost use Rattle.gfx_commands.specs.Recordings.{buffers, commands_total, bytes_total};
@@ -193,8 +194,8 @@ impl State {
         requires live { view.is_live (state_answers self.old) kind.CommandBuffer cb ≡ true }
         requires recording { IsTrue (is_recording ((state_answers self.old).buffer cb).state) }
         requires spelled { HasSpelling 1 (event_of_call call.now) }
-        requires few { commands_total self.old.recordings + 1 ≤ 2 ^ 20 }
-        requires small { bytes_total self.old.recordings + length (spelling 1 (event_of_call call.now)) ≤ 2 ^ 28 }
+        requires few { commands_total self.old.recordings + 1 ≤ max_kept_commands }
+        requires small { bytes_total self.old.recordings + length (spelling 1 (event_of_call call.now)) ≤ max_kept_bytes }
         ensures ok { OnOk result (state_answers self.new ≡ after (state_answers self.old) (records cb (event_of_call call.now))) }
         ensures err { OnErr result (state_answers self.new ≡ state_answers self.old) }
     {
@@ -256,7 +257,7 @@ impl State {
 
     /// A frame is shown.
     pub(crate) fn present(&mut self)
-        requires { (state_answers self.old).next_frame ≤ 2 ^ 62 }
+        requires { (state_answers self.old).next_frame ≤ max_frame }
         ensures { state_answers self.new ≡ after (state_answers self.old) presents }
     {
         self.next_frame += 1;

@@ -28,7 +28,7 @@ use Rattle.gfx_grammar.specs.Splitting.{front, blocks_within, blocks_from, block
 use Rattle.gfx_grammar.specs.Reads.{AreBytes}
 use Rattle.gfx_grammar.proofs.BlockLaws.{blocks_are_computed}
 use Rattle.gfx_trim_law.specs.Law.{HasRange}
-use Rattle.gfx_trim_law.proofs.Bytes.{are_bytes}
+use Rattle.gfx_grammar.proofs.ByteLaws.{are_bytes}
 use Rattle.gfx_trim_law.proofs.Keeps.{trimming_keeps_frames}
 use Rattle.gfx_trim_law.proofs.Follows.{rest_leaves_frames}
 

@@ -17,7 +17,7 @@ use Rattle.gfx_grammar.proofs.BlockLaws.{blocks_are_computed}
 use Rattle.gfx_grammar.proofs.AloneLaws.{blocks_from-append}
 use Rattle.gfx_model.proofs.Lists.{all_append}
 use Rattle.gfx_trim_law.specs.Law.{RestLeavesFrames, RestLeavesTrimmed}
-use Rattle.gfx_trim_law.proofs.Bytes.{are_bytes}
+use Rattle.gfx_grammar.proofs.ByteLaws.{are_bytes}
 use Rattle.gfx_trim_law.proofs.Prefix.{judge-valid}
 use Rattle.gfx_trim_law.proofs.Files.{IsFile, computed, Shows, shows}
 use Rattle.gfx_trim_law.proofs.Keeps.{trimmed_good}

@@ -62,3 +62,18 @@ pub const BIND_ALIGNMENT: u64 = 16;
 
 /// The bytes of a page of memory; a section has at most one FillMemory for each page.
 pub const PAGE_SIZE: u64 = 65_536;
+
+/// A line of a script.
+pub const MAX_LINE: usize = 1 << 20;
+
+/// The lines of a script.
+pub const MAX_LINES: u32 = 1 << 20;
+
+/// The text of a script.
+pub const MAX_SCRIPT: usize = 1 << 30;
+
+/// The phases of a script.
+pub const MAX_PHASES: usize = 64;
+
+/// A log, with its header.
+pub const MAX_LOG: u64 = 1 << 28;

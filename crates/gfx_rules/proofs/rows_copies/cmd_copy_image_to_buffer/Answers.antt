@@ -2,6 +2,7 @@ use Rattle.std.proofs.Common.{◌∷◌, ◌++◌, [], refl}
 use Rattle.gfx_types.specs.declared.names.Kind.TheVariants as kind
 use Rattle.gfx_model.specs.Table as table
 use Rattle.gfx_model.specs.Checks as words
+use Rattle.gfx_model.specs.Limits.{max_regions}
 use Rattle.gfx_rules.proofs.Joined.{stops, goes_on, joins}
 use Rattle.gfx_rules.proofs.rows_copies.cmd_copy_image_to_buffer.Goals as goal
 
@@ -10,7 +11,7 @@ unfolding table.row_of
 returns-in-Some g c =
     stops (g.A.Answers.view c.args.answers.now)
     (words.Check.live kind.CommandBuffer c.args.cb ∷ words.Check.recording c.args.cb
-    ∷ table.copied c.args.cb kind.Image c.args.source kind.Buffer c.args.target ++ table.value (words.is_among c.args.layout (6 ∷ 1 ∷ [])) ∷ table.between 1 256 c.args.regions.now)
+    ∷ table.copied c.args.cb kind.Image c.args.source kind.Buffer c.args.target ++ table.value (words.is_among c.args.layout (6 ∷ 1 ∷ [])) ∷ table.between 1 max_regions c.args.regions.now)
     _ _ _ c.in-Some.ensures refl
 
 pub returns-in-None : goal.returns-in-None
@@ -18,7 +19,7 @@ unfolding table.row_of
 returns-in-None g c =
     goes_on (g.A.Answers.view c.args.answers.now)
     (words.Check.live kind.CommandBuffer c.args.cb ∷ words.Check.recording c.args.cb
-    ∷ table.copied c.args.cb kind.Image c.args.source kind.Buffer c.args.target ++ table.value (words.is_among c.args.layout (6 ∷ 1 ∷ [])) ∷ table.between 1 256 c.args.regions.now)
+    ∷ table.copied c.args.cb kind.Image c.args.source kind.Buffer c.args.target ++ table.value (words.is_among c.args.layout (6 ∷ 1 ∷ [])) ∷ table.between 1 max_regions c.args.regions.now)
     _ _ _ c.in-None.ensures
     (joins _ _ (words.Check.fits _ ∷ []) _ _ _ _ c.mixed_fault-items.ensures c.downloads_fit.ensures c.first.ensures refl)
     refl

@@ -4,13 +4,14 @@ use Rattle.gfx_types.specs.declared.lists.Present.{Present}
 use Rattle.gfx_model.specs.Events.Event.{QueuePresentKHR}
 use Rattle.gfx_model.specs.Table as table
 use Rattle.gfx_model.specs.Checks as words
+use Rattle.gfx_model.specs.Limits.{max_semaphores, max_presents}
 use Rattle.gfx_rules.proofs.Joined.{stops, goes_on, joins, five_more}
 use Rattle.gfx_rules.proofs.rows_queue.queue_present.Goals as goal
 
 -- the checks of the queue, the waits and the number of presents
 abbrev front : ℕ → List ℕ → List Present → List words.Check
 front queue waits presents =
-    words.Check.live kind.Queue queue ∷ table.between 0 16 waits ++ table.near_each kind.Semaphore queue waits ++ table.between 1 8 presents
+    words.Check.live kind.Queue queue ∷ table.between 0 max_semaphores waits ++ table.near_each kind.Semaphore queue waits ++ table.between 1 max_presents presents
 
 -- the checks of the swapchains
 abbrev swapchains : ℕ → List Present → List words.Check

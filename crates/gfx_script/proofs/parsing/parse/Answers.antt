@@ -1,7 +1,7 @@
 use Rattle.std.proofs.Common.{length, ◌-◌, sym, ◌∙◌, arith}
 use Rattle.gfx_script_model.specs.Scripts.{parses}
 use Rattle.gfx_script.specs.State.{reading_of}
-use Rattle.gfx_script.proofs.Parsed.{parse_begins, parse_goes_on, fault_stops, parse_ends}
+use Rattle.gfx_script.proofs.Parsed.{parsed_as, parse_begins, parse_goes_on, fault_stops, parse_ends}
 use Rattle.gfx_script.proofs.parsing.parse.Goals as goal
 
 pub lines-init : goal.lines-init
@@ -26,6 +26,7 @@ lines-preserved c = record {
 pub returns : goal.returns
 returns c =
     let script = c.in_ok-into_script.ensures in
-    c.lines.invariant.parsed
+    parsed_as c.args.text.now _
+    (c.lines.invariant.parsed
     ∙ parse_ends (length c.args.text.now) c.lines.number (length c.args.text.now - length c.lines.rest.now) (reading_of c.lines.reading) c.lines.rest.now c.in_default.ensures
-    ∙ (λ i. parses (sym script.0 i) (sym script.1 i))
+    ∙ (λ i. parses (sym script.0 i) (sym script.1 i)))

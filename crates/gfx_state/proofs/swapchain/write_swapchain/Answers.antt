@@ -8,11 +8,11 @@ use Rattle.gfx_state.proofs.Fitting.{chain_within}
 use Rattle.gfx_state.proofs.swapchain.write_swapchain.Goals as goal
 
 pub write_images-requires-clause-few : goal.write_images-requires-clause-few
-write_images-requires-clause-few g c = (chain_within c.args.shape.images c.args.shape.width c.args.shape.height c.requires.within).0
+write_images-requires-clause-few g c = (chain_within c.args.chain.images c.args.chain.shape.width c.args.chain.shape.height c.requires.within).0
 
 pub write_images-requires-clause-places : goal.write_images-requires-clause-places
 write_images-requires-clause-places g c =
-    subst (λ n. AllByRecursion (IsPicture (g.B.StateBytes.bytes c.args.bytes.now) n) (fetched (answers c.args.objects.now) c.args.swapchain)) (sym c.image_size-size.ensures.size) c.requires.places
+    subst (λ n. AllByRecursion (IsPicture (g.B.StateBytes.bytes c.args.bytes.now) n) (fetched (answers c.args.parts.now.objects.now) c.args.owned.id)) (sym c.image_size-size.ensures.size) c.requires.places
 
 pub returns-in_err-write_creation : goal.returns-in_err-write_creation
 returns-in_err-write_creation g c = wrote_out _ c.from_residual.result c.in_err-write_creation.ensures c.from_residual.ensures.1

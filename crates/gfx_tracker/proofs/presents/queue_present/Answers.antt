@@ -8,6 +8,7 @@ use Rattle.gfx_model.specs.Checks.Check.{live}
 use Rattle.gfx_model.specs.Effects.{effect_of}
 use Rattle.gfx_model.specs.After.{after}
 use Rattle.gfx_model.proofs.Lists.{all_along}
+use Rattle.gfx_model.specs.Limits.{max_frame}
 use Rattle.gfx_laws.specs.Lawful.{Passes}
 use Rattle.gfx_tracker.specs.State.{state_answers}
 use Rattle.gfx_tracker.specs.Taking.{HasSignal, HasIndex}
@@ -42,7 +43,7 @@ present-requires c =
     let v = state_answers c.args.state.now in
     let u = state_answers c.take.new.self in
     let w = state_answers c.unsignal_each.new.state in
-    subst (λ n. n ≤ 2 ^ 62)
+    subst (λ n. n ≤ max_frame)
     (sym (ap (λ (w : View). w.next_frame) c.give_back_each.ensures ∙ gives_back_frame w c.args.presents.now
     ∙ ap (λ (w : View). w.next_frame) c.unsignal_each.ensures ∙ unsignals_frame u c.args.waits.now ∙ frame_taken v u c.take.ensures))
     (present_facts v c.args._queue c.args.waits.now c.args.presents.now c.requires).frame

@@ -2,6 +2,7 @@ use Rattle.std.proofs.Common.{◌≤◌, ◌+◌, ◌-◌, ◌<◌, ◌^◌, ap,
 use Rattle.std.specs.FinMap as map
 use Rattle.gfx_table.specs.Used.{holds}
 use Rattle.gfx_model.specs.Views.{detail_bytes}
+use Rattle.gfx_model.specs.Limits.{max_live_bytes, max_live_objects}
 use Rattle.gfx_objects.specs.Object.{detail_of}
 use Rattle.gfx_objects.specs.Objects.{bytes_in}
 use Rattle.gfx_objects.specs.Inside.{kept_of}
@@ -27,8 +28,8 @@ invariant_of-self c =
     let here = ap (λ k. k.spare) c.self.view_is in
     let unused = ap (λ k. holds k.used o.id) c.self.view_is ∙ c.requires.unused in
     let none = unused_fresh (kept_of s) c.self.invariant.sound o.id unused in
-    let few : map.len s.rows.map < 65536 = let a = ap (λ k. map.len k.rows) c.self.view_is in let b = c.requires.few in omega (arith, a, b) in
-    let small : bytes_in s.rows.map + detail_bytes (detail_of o.detail) ≤ 2 ^ 28 = let a = ap (λ k. bytes_in k.rows) c.self.view_is in let b = c.requires.small in omega (arith, a, b) in
+    let few : map.len s.rows.map < max_live_objects = let a = ap (λ k. map.len k.rows) c.self.view_is in let b = c.requires.few in omega (arith, a, b) in
+    let small : bytes_in s.rows.map + detail_bytes (detail_of o.detail) ≤ max_live_bytes = let a = ap (λ k. bytes_in k.rows) c.self.view_is in let b = c.requires.small in omega (arith, a, b) in
     record {
       sound = sound_created (kept_of s) (record { rows = c.set.new.self.map; used = c.insert-2.new.self; spare = s.room - 1 }) o.id o
           c.set.ensures.map unused c.insert-2.ensures.ids c.requires.row c.requires.unbound few small c.self.invariant.sound;

@@ -13,7 +13,7 @@ returns-then-after-fill c =
     let count = page_count 65536 c.self.inside.pages.items _ (lit< tt) c.self.invariant in
     sym (find_fills c.args.self.now c.args.after
     ∙ c.loop-index.invariant
-    ∙ found_here 65536 _ _ c.args.after c.loop-index.index c.in-Some.fill (omega arith) (sym c.in-Some.ensures) c.if-after-fill.true)
+    ∙ found_here 65536 (λ i. get_or c.args.self.now i 0) (length c.args.self.now) c.args.after c.loop-index.index c.in-Some.fill (omega arith) (sym c.in-Some.ensures) c.if-after-fill.true)
 
 pub loop-index-preserved : goal.loop-index-preserved
 loop-index-preserved c =

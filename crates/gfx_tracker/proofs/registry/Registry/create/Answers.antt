@@ -2,6 +2,7 @@ use Rattle.std.proofs.Common.{◌≡◌, ◌≤◌, ◌+◌, ◌^◌, None, ap, 
 use Rattle.gfx_model.specs.Steps.Step.{creates}
 use Rattle.gfx_model.specs.Views.{View, live_bytes, detail_bytes}
 use Rattle.gfx_model.specs.After.{after}
+use Rattle.gfx_model.specs.Limits.{max_live_bytes}
 use Rattle.gfx_objects.specs.Object.{detail_of}
 use Rattle.gfx_objects.specs.Objects.{answers}
 use Rattle.gfx_tracker.specs.Registered.{IsRegistered, registered, with_signal}
@@ -10,7 +11,7 @@ use Rattle.gfx_tracker.proofs.registry.Registry.create.Goals as goal
 
 pub create-requires-clause-bytes : goal.create-requires-clause-bytes
 create-requires-clause-bytes c =
-    subst (λ v. live_bytes v + detail_bytes (detail_of c.args.detail) ≤ 2 ^ 28) (sym c.reserve.ensures.same) c.requires.bytes
+    subst (λ v. live_bytes v + detail_bytes (detail_of c.args.detail) ≤ max_live_bytes) (sym c.reserve.ensures.same) c.requires.bytes
 
 pub invariant_of-self-2 : goal.invariant_of-self-2
 invariant_of-self-2 c =

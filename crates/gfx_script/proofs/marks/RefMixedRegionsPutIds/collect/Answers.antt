@@ -1,5 +1,0 @@
-use Rattle.gfx_script.proofs.Marked.{mixed_region_names}
-use Rattle.gfx_script.proofs.marks.RefMixedRegionsPutIds.collect.Goals as goal
-
-pub returns : goal.returns
-returns c = rw (mixed_region_names c.args.self.now.now) (rw c.items.ensures at c.collect_records.ensures)

@@ -1,0 +1,15 @@
+use Rattle.std.proofs.Common.{[], ◌≡◌}
+use Rattle.gfx_types.specs.declared.lists.ImageRegion.{ImageRegion}
+use Rattle.gfx_model.specs.Fields.Value.{records}
+use Rattle.gfx_model.specs.Fields.Records.{image_regions}
+use Rattle.gfx_script_model.specs.Ids.{named_by}
+use Rattle.gfx_script.proofs.Marked.{image_region_names, few, takes_records, unmapped}
+use Rattle.gfx_script.proofs.record_lists.RefImageRegionsPutIds.put.Goals as goal
+
+pub put_records-requires : goal.put_records-requires
+put_records-requires c = rw c.items.ensures (few (λ (_ : ImageRegion). []) (λ (r : ImageRegion). r) (λ xs. named_by (records (image_regions xs))) image_region_names c.args.self.now.now c.args.ids.named.now c.requires.named)
+
+pub returns : goal.returns
+returns c =
+    let taken = rw c.items.ensures at c.in_ok-items.ensures in
+    rw c.of.ensures (takes_records (λ (_ : ImageRegion). []) (λ (r : ImageRegion). r) (λ xs. named_by (records (image_regions xs))) image_region_names (λ after before. after ≡ before.now) c.args.self.now c.args.ids c.in_ok-items.items.items c.in_ok-items.named taken (unmapped _ _ taken.others))
