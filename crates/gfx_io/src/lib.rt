@@ -2,11 +2,15 @@
 #![tactic(auto)]
 
 mod fields;
+mod gate;
 mod memory;
 mod outside;
+mod slice;
 mod standard;
 
 pub use fields::{WantMemory, put_u32, put_u64, take_u32, take_u64};
+pub use gate::{Gate, NoGate};
 pub use memory::{MemSink, MemSource};
 pub use outside::{Failed, Sink, Source, fill, write_whole};
+pub use slice::SliceSource;
 pub use standard::{StdSink, StdSource};

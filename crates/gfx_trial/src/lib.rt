@@ -2,7 +2,6 @@
 #![tactic(auto)]
 
 mod fault;
-mod file;
 mod middle;
 mod trial;
 

@@ -4,9 +4,8 @@ ghost use Rattle.gfx_types.specs.declared.frame.Frame.{Frame};
 ghost use Rattle.gfx_player.specs.Faults.{IsUnwritten};
 ghost use Rattle.gfx_trial.specs.Files.{HasFrames, digested};
 
-use crate::file::FileBytes;
 use gfx_digest::{Digested, digest_frames};
-use gfx_io::MemSink;
+use gfx_io::{MemSink, SliceSource};
 use gfx_player::PlayFault;
 use gfx_trim::trim;
 use gfx_types::WantMemory;
@@ -23,7 +22,7 @@ pub(crate) fn cut_out(
     requires there { (shown : List Frame) × HasFrames first last file.now shown }
     ensures { IfOk result (λ out. (shown : List Frame) → HasFrames first last file.now shown → HasFrames first last out.items shown) }
 {
-    let mut source = FileBytes { rest: file };
+    let mut source = SliceSource { rest: file };
     let mut sink = MemSink::new(alloc, usize::MAX, Vec::new(alloc));
     match trim(alloc, first, last, &mut source, &mut sink) {
         Ok(()) => Ok(sink.into_bytes()),
@@ -42,7 +41,7 @@ pub(crate) fn digest_of(
     requires there { (shown : List Frame) × HasFrames first last file.now shown }
     ensures { IfOk result (λ d. (shown : List Frame) → HasFrames first last file.now shown → d ≡ digested first last shown) }
 {
-    let mut source = FileBytes { rest: file };
+    let mut source = SliceSource { rest: file };
     match digest_frames(alloc, first, last, &mut source) {
         Ok(digested) => Ok(digested),
         Err(fault) => Err(lacking(fault)),

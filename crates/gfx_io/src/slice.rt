@@ -1,17 +1,17 @@
-//! A file in memory, as a source.
+// A file in memory, as a source that never fails.
 ghost use Rattle.std.specs.Prelude.{◌≡◌, ◌<◌, Some};
 ghost use Rattle.std.specs.List.{All};
 
-use gfx_io::{Failed, Source};
+use crate::{Failed, Source};
 
 /// A file in memory. No read of it fails.
 #[derive(Drop)]
-pub(crate) struct FileBytes<'a> {
+pub struct SliceSource<'a> {
     pub rest: &'a [u8],
     ghost are_bytes: { All (λ b. b < 256) rest.now },
 }
 
-impl Source for FileBytes<'_> {
+impl Source for SliceSource<'_> {
     ghost left = { λ s. Some s.rest.now };
 
     ghost faults = { λ _. 0 };
