@@ -9,6 +9,9 @@ use Rattle.gfx_model.specs.Table.{checks_of}
 use Rattle.gfx_model.specs.After.{after}
 use Rattle.gfx_model.specs.History.{steps, view, fault, is_valid}
 use Rattle.gfx_model.specs.Limits.{max_log}
+use Rattle.gfx_model.specs.Blocks.{clean}
+use Rattle.gfx_model.specs.Frames.{frames}
+use Rattle.gfx_model.specs.Meaning.{Means}
 use Rattle.gfx_script_model.specs.Runs.{Entry, history, history_onto, log_bytes, log_length}
 use Rattle.gfx_model.proofs.Steps.{view-event}
 use Rattle.gfx_tracker.specs.Taking.{after_event}
@@ -22,7 +25,9 @@ use Rattle.gfx_capture.specs.ThreadBuffer.{IsPutOf, IsPut, with_thread}
 use Rattle.gfx_capture.specs.Log.{Logged, IsLog, logged, IsSound}
 use Rattle.gfx_capture.specs.Append.{AnswersOne, Took, refusal_of}
 use Rattle.gfx_capture.proofs.Reading.{read, more}
-use Rattle.gfx_capture.proofs.ThreadBytes.{can_write, encoding-length, thread-length}
+use Rattle.gfx_log_law.proofs.Lengths.{few_blocks}
+use Rattle.gfx_log_law.proofs.Files.{logs_are_files}
+use Rattle.gfx_capture.proofs.ThreadBytes.{can_write, thread-length}
 use Rattle.gfx_capture.proofs.Written.{under_thread, put_long}
 
 -- ---- histories
@@ -55,11 +60,6 @@ empty_log m bytes v version is stands =
       stands = stands;
     }
 
--- no block has fewer than twelve bytes
-pub few_blocks : (m : ℕ) (es : List Entry) → length es ≤ length (log_bytes m es)
-few_blocks m [] = omega arith
-few_blocks m (e ∷ es) = omega (arith, few_blocks m es, length-append (encoding m e.thread e.event) (log_bytes m es), encoding-length m e.thread e.event)
-
 module _ (m n : ℕ) (bytes : List ℕ) (v : View) (is : IsLog m n bytes v) where
   abbrev entries : List Entry
   entries = entries_in m n (drop 16 bytes)
@@ -72,6 +72,12 @@ module _ (m n : ℕ) (bytes : List ℕ) (v : View) (is : IsLog m n bytes v) wher
 
   pub sound : IsSound m (entries_in m n (drop 16 bytes))
   sound = record { valid = is.valid; small = omega (arith, is.small, long); written = (is.blocks).written }
+
+  -- the bytes are a file that means its history
+  pub means : Means bytes (frames (history (entries_in m n (drop 16 bytes)))) clean
+  means =
+      subst (λ (b : List ℕ). Means b (frames (history (entries_in m n (drop 16 bytes)))) clean) (sym whole)
+      (logs_are_files m (entries_in m n (drop 16 bytes)) is.version sound.valid sound.small sound.written)
 
   pub counts : n ≡ length (entries_in m n (drop 16 bytes))
   counts = sym (is.blocks).count

@@ -6,6 +6,7 @@ use Rattle.gfx_model.specs.Events.{Event}
 use Rattle.gfx_model.specs.Spelling.{encoding, type_of, id_of, payload, spelling}
 use Rattle.gfx_script_model.specs.Runs.{log_bytes}
 use Rattle.gfx_grammar.specs.Framing.{CanBeWritten}
+use Rattle.gfx_log_law.proofs.Lengths.{encoding-length}
 use Rattle.gfx_capture.specs.Entry.{entries_under}
 use Rattle.gfx_capture.specs.ThreadBuffer.{CanBePut}
 
@@ -19,10 +20,6 @@ payload-parts m t e other = ap (λ b. to_le_bytes w32 (id_of e) ++ (cond b [] (t
 
 pub payload-length : (m s t : ℕ) (e : Event) → nat_eq (type_of e) 2 ≡ false → length (payload m t e) ≡ length (payload m s e)
 payload-length m s t e other = ap length (payload-parts m t e other) ∙ sym (ap length (payload-parts m s e other))
-
-pub encoding-length : (m t : ℕ) (e : Event) → length (encoding m t e) ≡ 12 + length (payload m t e)
-unfolding encoding
-encoding-length m t e = omega arith
 
 pub thread-length : (m s t : ℕ) (e : Event) → nat_eq (type_of e) 2 ≡ false → length (encoding m t e) ≡ length (encoding m s e)
 thread-length m s t e other = encoding-length m t e ∙ ap (λ n. 12 + n) (payload-length m s t e other) ∙ sym (encoding-length m s e)

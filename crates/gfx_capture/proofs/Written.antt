@@ -14,7 +14,8 @@ use Rattle.gfx_grammar.specs.Framing.{IsBlock}
 use Rattle.gfx_grammar.proofs.NumberLaws.{guard_some}
 use Rattle.gfx_grammar.proofs.WrittenLaws.{encoding-block}
 use Rattle.gfx_capture.specs.ThreadBuffer.{IsPut, IsPutOf, with_thread}
-use Rattle.gfx_capture.proofs.ThreadBytes.{can_write, payload-parts, payload-length, encoding-length}
+use Rattle.gfx_log_law.proofs.Lengths.{encoding-length}
+use Rattle.gfx_capture.proofs.ThreadBytes.{can_write, payload-parts, payload-length}
 
 -- ---- numbers at the front
 

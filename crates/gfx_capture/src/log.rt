@@ -3,7 +3,10 @@ ghost use Rattle.std.specs.Prelude.{◌≡◌, ℕ, [], ◌++◌, ◌≤◌, len
 ghost use Rattle.gfx_model.specs.Events.{Event};
 ghost use Rattle.gfx_model.specs.Limits.{max_log};
 ghost use Rattle.gfx_model.specs.Spelling.{header};
-ghost use Rattle.gfx_script_model.specs.Runs.{log_bytes};
+ghost use Rattle.gfx_model.specs.Blocks.{clean};
+ghost use Rattle.gfx_model.specs.Frames.{frames};
+ghost use Rattle.gfx_model.specs.Meaning.{Means};
+ghost use Rattle.gfx_script_model.specs.Runs.{history, log_bytes};
 ghost use Rattle.gfx_tracker.specs.Tracker.{answers};
 ghost use Rattle.gfx_capture.specs.Entry.{IsVersion};
 ghost use Rattle.gfx_capture.specs.ThreadBuffer.{IsPut, IsPutOf};
@@ -69,6 +72,9 @@ impl Log {
     /// The bytes of the file. It takes no memory.
     pub fn bytes(&self) -> &[u8]
         ensures bytes { result.now ≡ header self.now.minor ++ log_bytes self.now.minor self.now.entries }
+
+        // As a file they end cleanly and show the frames of the history.
+        ensures file { Means result.now (frames (history self.now.entries)) clean }
         ensures sound { IsSound self.now.minor self.now.entries }
     {
         self.bytes.as_slice()

@@ -11,19 +11,19 @@ use Rattle.gfx_grammar.specs.Reads.{AreBytes}
 use Rattle.gfx_grammar.proofs.NumberLaws.{all_bytes}
 use Rattle.gfx_grammar.proofs.ByteLaws.{AllBytes, both_bytes, are_bytes, le32_bytes, payload_all, block_all}
 
-encoded : (m : ℕ) (e : Event) → HasSpelling m e → AllBytes (encoding m 0 e)
+pub encoded : (m t : ℕ) (e : Event) → HasSpelling m e → AllBytes (encoding m t e)
 unfolding encoding
-encoded m e spelled = block_all (type_of e) (payload m 0 e) (payload_all m 0 e spelled.fields)
+encoded m t e spelled = block_all (type_of e) (payload m t e) (payload_all m t e spelled.fields)
 
 made_bytes : (m : ℕ) (made : List Event) → AllByRecursion (HasSpelling m) made → AllBytes (flat_map (encoding m 0) made)
 made_bytes m [] spelled = tt
-made_bytes m (e ∷ es) spelled = both_bytes (encoding m 0 e) (flat_map (encoding m 0) es) (encoded m e spelled.0) (made_bytes m es spelled.1)
+made_bytes m (e ∷ es) spelled = both_bytes (encoding m 0 e) (flat_map (encoding m 0) es) (encoded m 0 e spelled.0) (made_bytes m es spelled.1)
 
 standing_bytes : (ws : List Whole) → AllByRecursion (λ w. AreBytes w.bytes) ws → AllBytes (flat_map (λ w. w.bytes) ws)
 standing_bytes [] are = tt
 standing_bytes (w ∷ ws) are = both_bytes w.bytes (flat_map (λ w. w.bytes) ws) (all_bytes w.bytes are.0) (standing_bytes ws are.1)
 
-header_bytes : (m : ℕ) → AllBytes (header m)
+pub header_bytes : (m : ℕ) → AllBytes (header m)
 header_bytes m =
     both_bytes ((71 ∷ 70 ∷ 88 ∷ 82 ∷ [] ++ to_le_bytes w32 1000) ++ to_le_bytes w32 m) (to_le_bytes w32 0)
     (both_bytes (71 ∷ 70 ∷ 88 ∷ 82 ∷ [] ++ to_le_bytes w32 1000) (to_le_bytes w32 m)
