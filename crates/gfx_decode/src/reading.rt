@@ -127,8 +127,9 @@ fn cut_fault(at: Position) -> Fault
     Fault::Truncated
 }
 
-/// Reads the next bytes onto the end of the buffer, fewer than `most` only where the input ends.
-fn read_piece<S: Source>(
+/// Reads the next bytes onto the end of the buffer, fewer than `most` only where the input ends. After a failed read it has some
+/// of them, and others behind them.
+pub fn read_piece<S: Source>(
     source: &mut S,
     most: usize,
     buffer: &mut Vec<u8>,
