@@ -1,6 +1,7 @@
-// Lines that are read, and lines that are bad.
+// Lines that are read and written again, and lines that are bad.
 use crate::lines::{BAD, CALLS, METAS, PRESENTS};
 use gfx_text::{Left, Numbered, TextFault, read_call, read_meta};
+use gfx_text_writer::{show_call, show_meta};
 use gfx_types::{Call, Meta};
 use std::alloc::Global;
 use std::test::Fail;
@@ -33,6 +34,14 @@ fn meta_of<'a>(alloc: Global, line: &str, room: &'a mut Vec<u8>) -> Result<Meta<
     read_meta(alloc, &Numbered, *name, Left { made: &[], fields }, room)
 }
 
+/// What stands behind the name in a line.
+fn behind_name(line: &str) -> &[u8] {
+    match line.as_bytes().iter().position(|c| *c == b' ') {
+        Some(end) => &line.as_bytes()[end..],
+        None => &[],
+    }
+}
+
 #[test]
 fn each_call_is_read_in_both_versions(rt: HostRuntime) -> Result<(), Fail> {
     let alloc = rt.alloc();
@@ -61,6 +70,41 @@ fn each_metadata_is_read(rt: HostRuntime) -> Result<(), Fail> {
         let meta = meta_of(alloc, line, &mut room)?;
         let text = format!(in alloc; "{meta:?}")?;
         assert_eq!(rt; text.as_str(), said);
+    }
+    Ok(())
+}
+
+#[test]
+fn each_call_that_is_read_is_written_the_same(rt: HostRuntime) -> Result<(), Fail> {
+    let alloc = rt.alloc();
+    for (line, _) in CALLS {
+        for minor in [1, 2] {
+            let mut room = Vec::new(alloc);
+            let call = call_of(alloc, minor, line, &mut room)?;
+            let mut text = Vec::new(alloc);
+            show_call(&Numbered, minor, &call, &mut text)?;
+            assert_eq!(rt; text.as_slice(), behind_name(line));
+        }
+    }
+    for (minor, line, _) in PRESENTS {
+        let mut room = Vec::new(alloc);
+        let call = call_of(alloc, minor, line, &mut room)?;
+        let mut text = Vec::new(alloc);
+        show_call(&Numbered, minor, &call, &mut text)?;
+        assert_eq!(rt; text.as_slice(), behind_name(line));
+    }
+    Ok(())
+}
+
+#[test]
+fn each_metadata_that_is_read_is_written_the_same(rt: HostRuntime) -> Result<(), Fail> {
+    let alloc = rt.alloc();
+    for (line, _) in METAS {
+        let mut room = Vec::new(alloc);
+        let meta = meta_of(alloc, line, &mut room)?;
+        let mut text = Vec::new(alloc);
+        show_meta(&Numbered, &meta, &mut text)?;
+        assert_eq!(rt; text.as_slice(), behind_name(line));
     }
     Ok(())
 }
