@@ -4,7 +4,7 @@ use gfx_script::{ScriptFault, ScriptKind, parse};
 use std::test::Fail;
 
 /// Texts, and the first line with a fault and its kind where there is one.
-const TEXTS: [(&str, Option<(u32, ScriptKind)>); 56] = [
+const TEXTS: [(&str, Option<(u32, ScriptKind)>); 62] = [
     ("", None),
     ("\n", None),
     ("# nothing", None),
@@ -98,6 +98,31 @@ const TEXTS: [(&str, Option<(u32, ScriptKind)>); 56] = [
     (
         "phase\nvkDeviceWaitIdle device=D",
         Some((2, ScriptKind::BadLine)),
+    ),
+    (
+        "phase\nthread 0\nb = vkCreateDevice instance=a\nphase\nthread 0\na = vkCreateInstance api=1",
+        Some((3, ScriptKind::NameUnknown)),
+    ),
+    // names, and none
+    (
+        "phase\nthread 0\n_234567890123456789012345678901_ = vkCreateInstance api=1",
+        None,
+    ),
+    (
+        "phase\nthread 0\n_234567890123456789012345678901_3 = vkCreateInstance api=1",
+        Some((3, ScriptKind::BadLine)),
+    ),
+    (
+        "phase\nthread 0\nq = vkCreateInstance api=1\nvkQueueSubmit queue=q submits=[] fence=0",
+        None,
+    ),
+    (
+        "phase\nthread 0\nq = vkCreateInstance api=1\nvkQueueSubmit queue=0 submits=[] fence=q",
+        Some((4, ScriptKind::BadLine)),
+    ),
+    (
+        "phase\nthread 0\ns = vkCreateInstance api=1\nInitImage image=s layout=0 bytes=",
+        Some((4, ScriptKind::BadLine)),
     ),
     // kind 7
     (
