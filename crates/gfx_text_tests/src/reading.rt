@@ -2,7 +2,7 @@
 use crate::lines::{BAD, CALLS, METAS, PRESENTS};
 use gfx_text::{Left, Numbered, TextFault, read_call, read_meta};
 use gfx_text_writer::{show_call, show_meta};
-use gfx_types::{Call, Meta};
+use gfx_types::{Call, Meta, WantMemory};
 use std::alloc::Global;
 use std::test::Fail;
 
@@ -34,6 +34,19 @@ fn meta_of<'a>(alloc: Global, line: &str, room: &'a mut Vec<u8>) -> Result<Meta<
     read_meta(alloc, &Numbered, *name, Left { made: &[], fields }, room)
 }
 
+/// The fields of a call, as they are written.
+fn call_again(alloc: Global, minor: u32, call: &Call<'_>) -> Result<Vec<u8>, WantMemory> {
+    let mut fields = Vec::new(alloc);
+    show_call(&Numbered, minor, call, &mut fields)?;
+    Ok(fields)
+}
+
+fn meta_again(alloc: Global, meta: &Meta<'_>) -> Result<Vec<u8>, WantMemory> {
+    let mut fields = Vec::new(alloc);
+    show_meta(&Numbered, meta, &mut fields)?;
+    Ok(fields)
+}
+
 /// What stands behind the name in a line.
 fn behind_name(line: &str) -> &[u8] {
     match line.as_bytes().iter().position(|c| *c == b' ') {
@@ -43,7 +56,7 @@ fn behind_name(line: &str) -> &[u8] {
 }
 
 #[test]
-fn each_call_is_read_in_both_versions(rt: HostRuntime) -> Result<(), Fail> {
+fn each_call_is_read_and_written_in_both_versions(rt: HostRuntime) -> Result<(), Fail> {
     let alloc = rt.alloc();
     for (line, said) in CALLS {
         for minor in [1, 2] {
@@ -51,6 +64,8 @@ fn each_call_is_read_in_both_versions(rt: HostRuntime) -> Result<(), Fail> {
             let call = call_of(alloc, minor, line, &mut room)?;
             let text = format!(in alloc; "{call:?}")?;
             assert_eq!(rt; text.as_str(), said);
+            let fields = call_again(alloc, minor, &call)?;
+            assert_eq!(rt; fields.as_slice(), behind_name(line));
         }
     }
     for (minor, line, said) in PRESENTS {
@@ -58,53 +73,22 @@ fn each_call_is_read_in_both_versions(rt: HostRuntime) -> Result<(), Fail> {
         let call = call_of(alloc, minor, line, &mut room)?;
         let text = format!(in alloc; "{call:?}")?;
         assert_eq!(rt; text.as_str(), said);
+        let fields = call_again(alloc, minor, &call)?;
+        assert_eq!(rt; fields.as_slice(), behind_name(line));
     }
     Ok(())
 }
 
 #[test]
-fn each_metadata_is_read(rt: HostRuntime) -> Result<(), Fail> {
+fn each_metadata_is_read_and_written(rt: HostRuntime) -> Result<(), Fail> {
     let alloc = rt.alloc();
     for (line, said) in METAS {
         let mut room = Vec::new(alloc);
         let meta = meta_of(alloc, line, &mut room)?;
         let text = format!(in alloc; "{meta:?}")?;
         assert_eq!(rt; text.as_str(), said);
-    }
-    Ok(())
-}
-
-#[test]
-fn each_call_that_is_read_is_written_the_same(rt: HostRuntime) -> Result<(), Fail> {
-    let alloc = rt.alloc();
-    for (line, _) in CALLS {
-        for minor in [1, 2] {
-            let mut room = Vec::new(alloc);
-            let call = call_of(alloc, minor, line, &mut room)?;
-            let mut text = Vec::new(alloc);
-            show_call(&Numbered, minor, &call, &mut text)?;
-            assert_eq!(rt; text.as_slice(), behind_name(line));
-        }
-    }
-    for (minor, line, _) in PRESENTS {
-        let mut room = Vec::new(alloc);
-        let call = call_of(alloc, minor, line, &mut room)?;
-        let mut text = Vec::new(alloc);
-        show_call(&Numbered, minor, &call, &mut text)?;
-        assert_eq!(rt; text.as_slice(), behind_name(line));
-    }
-    Ok(())
-}
-
-#[test]
-fn each_metadata_that_is_read_is_written_the_same(rt: HostRuntime) -> Result<(), Fail> {
-    let alloc = rt.alloc();
-    for (line, _) in METAS {
-        let mut room = Vec::new(alloc);
-        let meta = meta_of(alloc, line, &mut room)?;
-        let mut text = Vec::new(alloc);
-        show_meta(&Numbered, &meta, &mut text)?;
-        assert_eq!(rt; text.as_slice(), behind_name(line));
+        let fields = meta_again(alloc, &meta)?;
+        assert_eq!(rt; fields.as_slice(), behind_name(line));
     }
     Ok(())
 }
