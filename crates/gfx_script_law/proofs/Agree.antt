@@ -1,15 +1,15 @@
 -- Lines whose names are below a bound have the same calls under ids that agree there.
-use Rattle.std.proofs.Common.{◌≡◌, ℕ, zero, suc, ◌+◌, ◌<◌, ◌≤◌, ◌==◌, Bool, true, false, cond, List, [], ◌∷◌, ◌++◌, map, flat_map, length, slice_index, sym, refl, ap, ◌∙◌, subst, arith, length-append}
+use Rattle.std.proofs.Common.{◌≡◌, ℕ, zero, suc, ◌+◌, ◌<◌, ◌≤◌, ◌==◌, List, [], ◌∷◌, ◌++◌, map, length, slice_index, sym, refl, ◌∙◌, subst, arith, length-append}
 use Rattle.std.specs.List.{AllByRecursion}
 use Rattle.std.proofs.lemmas.Bool.{cond_both}
 use Rattle.gfx_model.specs.Events.{Event}
 use Rattle.gfx_script_model.specs.Ids.{map_ids, uses_of, defines_of}
-use Rattle.gfx_script_model.specs.Runs.{Entry, calls_of, events_of, lines_in}
+use Rattle.gfx_script_model.specs.Runs.{Entry, calls_of, lines_in}
 use Rattle.gfx_script_model.specs.Scripts.{Line, Part}
 use Rattle.gfx_text_grammar.proofs.Lists.{all_parts}
 use Rattle.gfx_script.proofs.Filling.{one_event}
 use Rattle.gfx_script.proofs.Renaming.{uses_renamed, defines_renamed, blank_renamed}
-use Rattle.gfx_run_law.specs.Pieces.{AreWhole, HasAllLines}
+use Rattle.gfx_run_law.specs.Pieces.{AreWhole}
 use Rattle.gfx_script_law.specs.Playable.{AreNumbered, LongerTablesAgree, names_of, numbers_from, phase_lines, script_lines}
 use Rattle.gfx_script_law.proofs.Numbers.{longer-table}
 

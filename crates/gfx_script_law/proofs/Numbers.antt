@@ -1,9 +1,8 @@
 -- Names that are numbered in order, and a table that has their ids.
-use Rattle.std.proofs.Common.{◌≡◌, ℕ, zero, suc, ◌+◌, ◌<◌, ◌≤◌, List, [], ◌∷◌, ◌++◌, map, length, slice_index, sym, refl, ap, ◌∙◌, subst, arith, append_assoc, append-nil, length-append}
-use Rattle.std.specs.List.{AllByRecursion}
+use Rattle.std.proofs.Common.{◌≡◌, ℕ, zero, suc, ◌+◌, ◌<◌, List, [], ◌∷◌, ◌++◌, map, length, slice_index, sym, refl, ap, ◌∙◌, subst, arith, append_assoc, length-append}
 use Rattle.std.proofs.lemmas.List.{get_or_append_left, get_or_at}
 use Rattle.std.proofs.lemmas.List.Concat.{flat_map-append}
-use Rattle.gfx_script_model.specs.Ids.{uses_of, defines_of}
+use Rattle.gfx_script_model.specs.Ids.{defines_of}
 use Rattle.gfx_script_model.specs.Scripts.{Line, Part}
 use Rattle.gfx_script_law.specs.Playable.{AreNumbered, names_of, numbers_from, phase_lines, script_lines}
 
