@@ -1,0 +1,155 @@
+-- What a recording tells by its answer.
+use Rattle.std.proofs.Common.{◌≡◌, ◌⊎◌, ◌<◌, ◌≤◌, ◌+◌, ℕ, List, [], ◌++◌, length, Option, Result, Ok, Err, Some, None, inl, inr, refl, sym, ap, subst, ◌∙◌, arith, append-nil, length-append}
+use Rattle.std.specs.Prelude.{IfSome}
+use Rattle.std.specs.Io.KnownBytes.{Consumes, IsAtEnd}
+use Rattle.gfx_io.specs.Told.{IfTold, IsTold}
+use Rattle.gfx_model.specs.Limits.{max_script}
+use Rattle.gfx_script_model.specs.Scripts.{Part, Parsed, Parses, parses, fails}
+use Rattle.gfx_script_model.specs.Runs.{Safe}
+use Rattle.gfx_script.specs.Kinds.{kind_of}
+use Rattle.gfx_script.specs.State.{ParsesAs}
+use Rattle.gfx_script.specs.declared.kind.ScriptKind.{ScriptKind}
+use Rattle.gfx_player.specs.declared.asked.Asked.{Asked}
+use Rattle.gfx_player.specs.declared.asked.Asked.TheVariants.{All, Between}
+use Rattle.gfx_recorder.specs.Outcomes.{IsDone, IsOutcome}
+use Rattle.gfx_recorder.specs.declared.outcome.Outcome.{Outcome}
+use Rattle.gfx_recorder.specs.declared.outcome.Outcome.TheVariants as ran
+use Rattle.gfx_recording.specs.declared.fault.RecordingFault.{RecordingFault}
+use Rattle.gfx_recording.specs.declared.fault.RecordingFault.TheVariants.{BadScript, CallRefused, LogFull, NoSuchFrame, ReadFault, SinkFault, WantMemory}
+use Rattle.gfx_recording.specs.Faults.{IsUnread}
+use Rattle.gfx_recording.specs.Records.{IsRecorded, IsSafeText, IsScriptOf, IsUnstopped, Leaves, Records, Writes}
+use Rattle.gfx_recording.proofs.Length.{parses_small}
+
+-- the answers to a text that is no script, and to one that was not read
+abbrev pub IsOfText : RecordingFault → Type 0
+IsOfText (BadScript line kind) = Unit {0}
+IsOfText ReadFault = Unit {0}
+IsOfText _ = ⊥
+
+-- what was written is not answered so
+written_not : (asked : Asked) (before after : Option (List ℕ)) (outcome : Outcome) (why : RecordingFault) → IsOfText why → Writes asked before after outcome (Err why) → ⊥
+written_not All before after (ran.Done log) (BadScript line kind) of w = w
+written_not All before after (ran.Done log) ReadFault of w = w
+written_not (Between first last) before after (ran.Done log) (BadScript line kind) of w = w
+written_not (Between first last) before after (ran.Done log) ReadFault of w = w
+written_not asked before after (ran.Refused n f at log) (BadScript line kind) of (inl w) = let e = w.0 in absurd cc
+written_not asked before after (ran.Refused n f at log) (BadScript line kind) of (inr w) = let e = w.0 in absurd cc
+written_not asked before after (ran.Refused n f at log) ReadFault of (inl w) = let e = w.0 in absurd cc
+written_not asked before after (ran.Refused n f at log) ReadFault of (inr w) = let e = w.0 in absurd cc
+written_not asked before after (ran.LogFull l n log) (BadScript line kind) of (inl w) = let e = w.0 in absurd cc
+written_not asked before after (ran.LogFull l n log) (BadScript line kind) of (inr w) = let e = w.0 in absurd cc
+written_not asked before after (ran.LogFull l n log) ReadFault of (inl w) = let e = w.0 in absurd cc
+written_not asked before after (ran.LogFull l n log) ReadFault of (inr w) = let e = w.0 in absurd cc
+written_not asked before after ran.WantMemory (BadScript line kind) of w = let e = w.0 in absurd cc
+written_not asked before after ran.WantMemory ReadFault of w = let e = w.0 in absurd cc
+written_not asked before after outcome _ of w = of
+
+pub recorded : (asked : Asked) (before after : Option (List ℕ)) (result : Result Unit RecordingFault) (bytes rest : List ℕ)
+    → IsRecorded asked before after result bytes rest → Records asked before after result bytes rest
+recorded asked before after (Ok done) bytes rest h = h
+recorded asked before after (Err (BadScript line kind)) bytes rest h = absurd (written_not asked before after h.outcome (BadScript line kind) tt h.wrote)
+recorded asked before after (Err (CallRefused line fault at)) bytes rest h = h
+recorded asked before after (Err (LogFull long wanted)) bytes rest h = h
+recorded asked before after (Err (NoSuchFrame first last)) bytes rest h = h
+recorded asked before after (Err ReadFault) bytes rest h = tt
+recorded asked before after (Err SinkFault) bytes rest h = h
+recorded asked before after (Err WantMemory) bytes rest h = inr h
+
+pub written_leaves : (asked : Asked) (before after : Option (List ℕ)) (outcome : Outcome) (result : Result Unit RecordingFault) (P : Type 0)
+    → Writes asked before after outcome result → Leaves result P
+written_leaves asked before after outcome (Ok done) P w = tt
+written_leaves asked before after outcome (Err (BadScript line kind)) P w = absurd (written_not asked before after outcome (BadScript line kind) tt w)
+written_leaves asked before after outcome (Err (CallRefused line fault at)) P w = tt
+written_leaves asked before after outcome (Err (LogFull long wanted)) P w = tt
+written_leaves asked before after outcome (Err (NoSuchFrame first last)) P w = tt
+written_leaves asked before after outcome (Err ReadFault) P w = absurd (written_not asked before after outcome ReadFault tt w)
+written_leaves asked before after outcome (Err SinkFault) P w = tt
+written_leaves asked before after outcome (Err WantMemory) P w = tt
+
+-- nothing was written where the text was not read
+pub unread_records : (asked : Asked) (taken : Option (List ℕ)) (why : RecordingFault) (bytes rest : List ℕ) → IsUnread why → Records asked taken taken (Err why) bytes rest
+unread_records asked taken ReadFault bytes rest un = tt
+unread_records asked taken WantMemory bytes rest un = inl refl
+unread_records asked taken _ bytes rest un = absurd un
+
+pub unread_leaves : (why : RecordingFault) (P : Type 0) → P → Leaves (Err why) P
+unread_leaves (BadScript line kind) P p = p
+unread_leaves ReadFault P p = p
+unread_leaves _ P p = tt
+
+-- a run that came to its end was written, but for want of memory, a frame that isn't there, or a failed write
+pub done_unstopped : (asked : Asked) (before after : Option (List ℕ)) (outcome : Outcome) (result : Result Unit RecordingFault) → IsDone outcome
+    → Writes asked before after outcome result → (result ≡ Err SinkFault → ⊥) → IsUnstopped asked result
+done_unstopped asked before after outcome (Ok done) is w sunk = tt
+done_unstopped asked before after outcome (Err SinkFault) is w sunk = absurd (sunk refl)
+done_unstopped asked before after outcome (Err WantMemory) is w sunk = tt
+done_unstopped All before after (ran.Done log) (Err _) is w sunk = w
+done_unstopped (Between first last) before after (ran.Done log) (Err (NoSuchFrame low high)) is w sunk = tt
+done_unstopped (Between first last) before after (ran.Done log) (Err _) is w sunk = w
+done_unstopped asked before after (ran.Refused n f at log) result is w sunk = absurd is
+done_unstopped asked before after (ran.LogFull l n log) result is w sunk = absurd is
+done_unstopped asked before after ran.WantMemory (Err (BadScript line kind)) is w sunk = let e = w.0 in absurd cc
+done_unstopped asked before after ran.WantMemory (Err (CallRefused line fault at)) is w sunk = let e = w.0 in absurd cc
+done_unstopped asked before after ran.WantMemory (Err (LogFull long wanted)) is w sunk = let e = w.0 in absurd cc
+done_unstopped asked before after ran.WantMemory (Err (NoSuchFrame first last)) is w sunk = let e = w.0 in absurd cc
+done_unstopped asked before after ran.WantMemory (Err ReadFault) is w sunk = let e = w.0 in absurd cc
+
+-- a source whose text is a script was read whole
+pub whole_text : (text bytes rest : List ℕ) (m : ℕ) (phases : List (List Part)) → bytes ≡ text ++ rest → (length text ≤ max_script → rest ≡ []) → Parses bytes (parses m phases)
+    → text ≡ bytes
+whole_text text bytes rest m phases parts ended is =
+    let small : length text ≤ max_script = omega (arith, parses_small bytes m phases is, ap length parts, length-append text rest) in
+    sym (parts ∙ ap (λ (z : List ℕ). text ++ z) (ended small) ∙ append-nil text)
+
+-- a script that no call of can be refused
+abbrev safe_of : Parsed → Type 0
+safe_of (parses m phases) = Safe m phases
+safe_of (fails line kind) = Unit {0}
+
+module _ (text bytes rest : List ℕ) (parts : bytes ≡ text ++ rest) (ended : length text ≤ max_script → rest ≡ []) (safe : IsSafeText bytes) where
+  same : text ≡ bytes
+  same = whole_text text bytes rest safe.0 safe.1 parts ended safe.2
+
+  read_so : Parses text (parses safe.0 safe.1)
+  read_so = subst (λ (t : List ℕ). Parses t (parses safe.0 safe.1)) (sym same) safe.2
+
+  -- a text that is a script is not refused
+  not_refused : (asked : Asked) (why : RecordingFault) → IsScriptOf text (Err why) → IsUnstopped asked (Err why)
+  not_refused asked (BadScript line kind) is = let e = is.1 (parses safe.0 safe.1) read_so in absurd cc
+  not_refused asked WantMemory is = tt
+  not_refused asked _ is = absurd is
+
+  -- and the script that is read of it is safe
+  safe_script : (m : ℕ) (phases : List (List Part)) → ParsesAs text (parses m phases) → Safe m phases
+  safe_script m phases is = subst safe_of (is.1 (parses safe.0 safe.1) read_so) safe.3
+
+pub text_unstopped : (asked : Asked) (left new : Option (List ℕ)) (text : List ℕ) (why : RecordingFault) → Consumes left new text → (length text ≤ max_script → IsAtEnd new)
+    → IsScriptOf text (Err why) → IsTold left → IfSome left IsSafeText → IsUnstopped asked (Err why)
+text_unstopped asked None new text why reads ended is told safe = absurd told
+text_unstopped asked (Some bytes) None text why reads ended is told safe = absurd reads
+text_unstopped asked (Some bytes) (Some rest) text why reads ended is told safe = not_refused text bytes rest reads ended safe asked why is
+
+pub script_safe : (left new : Option (List ℕ)) (text : List ℕ) (m : ℕ) (phases : List (List Part)) → Consumes left new text → (length text ≤ max_script → IsAtEnd new)
+    → ParsesAs text (parses m phases) → IsTold left → IfSome left IsSafeText → Safe m phases
+script_safe None new text m phases reads ended is told safe = absurd told
+script_safe (Some bytes) None text m phases reads ended is told safe = absurd reads
+script_safe (Some bytes) (Some rest) text m phases reads ended is told safe = safe_script text bytes rest reads ended safe m phases is
+
+-- what a run left and what was written of it
+pub run_told : (asked : Asked) (left new before after : Option (List ℕ)) (text : List ℕ) (m : ℕ) (phases : List (List Part)) (outcome : Outcome) (result : Result Unit RecordingFault)
+    → Consumes left new text → (length text ≤ max_script → IsAtEnd new) → Parses text (parses m phases) → IsOutcome m phases outcome → Writes asked before after outcome result
+    → IfTold left new (Records asked before after result)
+run_told asked None new before after text m phases outcome result reads ended is ran wrote = tt
+run_told asked (Some bytes) None before after text m phases outcome result reads ended is ran wrote = absurd reads
+run_told asked (Some bytes) (Some rest) before after text m phases outcome result reads ended is ran wrote =
+    let none : rest ≡ [] = ended (parses_small text m phases is) in
+    let whole : bytes ≡ text = reads ∙ ap (λ (z : List ℕ). text ++ z) none ∙ append-nil text in
+    recorded asked before after result bytes rest (record {
+      read = none;
+      minor = m;
+      phases = phases;
+      parses = subst (λ (t : List ℕ). Parses t (parses m phases)) (sym whole) is;
+      outcome = outcome;
+      ran = ran;
+      wrote = wrote;
+    })

@@ -1,0 +1,84 @@
+-- What a recording answers, and what was written.
+use Rattle.std.specs.Prelude.{◌≡◌, ◌⊎◌, ◌≤◌, ℕ, List, [], ◌++◌, length, Option, Result, Ok, Err, ⊤}
+use Rattle.gfx_model.specs.Limits.{max_script}
+use Rattle.gfx_script_model.specs.Scripts.{Part, Parses, parses, fails}
+use Rattle.gfx_script_model.specs.Runs.{Safe}
+use Rattle.gfx_script.specs.Kinds.{kind_of}
+use Rattle.gfx_script.specs.Line.{phases_of}
+use Rattle.gfx_script.specs.State.{ParsesAs}
+use Rattle.gfx_script.specs.declared.script.Script.{Script}
+use Rattle.gfx_script.specs.declared.kind.ScriptKind.{ScriptKind}
+use Rattle.gfx_log_law.specs.Logs.{log_file}
+use Rattle.gfx_player.specs.declared.asked.Asked.{Asked}
+use Rattle.gfx_player.specs.declared.asked.Asked.TheVariants.{Between}
+use Rattle.gfx_recorder.specs.Outcomes.{IsOutcome}
+use Rattle.gfx_recorder.specs.declared.outcome.Outcome.{Outcome}
+use Rattle.gfx_recorder.specs.declared.outcome.Outcome.TheVariants as ran
+use Rattle.gfx_recording.specs.Writing.{TookThen, WritesAsked}
+use Rattle.gfx_recording.specs.declared.fault.RecordingFault.{RecordingFault}
+use Rattle.gfx_recording.specs.declared.fault.RecordingFault.TheVariants.{BadScript, CallRefused, LogFull, NoSuchFrame, ReadFault, SinkFault, WantMemory}
+
+-- ---- the text
+
+-- The text is what a source told up to its end, or one byte more than a script may have.
+pub record IsTextOf (text before after : List ℕ) : Type 0 where
+  pub parts : before ≡ text ++ after
+  pub ended : length text ≤ max_script → after ≡ []
+
+-- the script that a text is, or its first line with a fault
+abbrev pub IsScriptOf : List ℕ → Result Script RecordingFault → Type 0
+IsScriptOf text (Ok script) = ParsesAs text (parses script.minor (phases_of script.phases))
+IsScriptOf text (Err (BadScript line kind)) = ParsesAs text (fails line (kind_of kind))
+IsScriptOf text (Err WantMemory) = ⊤
+IsScriptOf text (Err _) = ⊥
+
+-- the text of the source is no script, and this is its first line with a fault
+pub record IsBadScript (line : ℕ) (kind : ScriptKind) (before after : List ℕ) : Type 0 where
+  pub text : List ℕ
+  pub read : IsTextOf text before after
+  pub fails : ParsesAs text (fails line (kind_of kind))
+
+-- ---- the log
+
+-- what was written of what a run left, by the answer
+abbrev pub Writes : Asked → Option (List ℕ) → Option (List ℕ) → Outcome → Result Unit RecordingFault → Type 0
+Writes asked before after (ran.Done log) result = WritesAsked asked before after log result
+Writes asked before after (ran.Refused line fault at log) result = TookThen (CallRefused line fault at) before after (log_file log.minor log.entries) result
+Writes asked before after (ran.LogFull long wanted log) result = TookThen (LogFull long wanted) before after (log_file log.minor log.entries) result
+Writes asked before after ran.WantMemory result = (result ≡ Err WantMemory) × (after ≡ before)
+
+-- ---- the recording
+
+-- the source was read to its end, its text is a script, which was run, and this is what was written of what the run left
+pub record IsRecorded (asked : Asked) (before after : Option (List ℕ)) (result : Result Unit RecordingFault) (bytes rest : List ℕ) : Type 0 where
+  pub read : rest ≡ []
+  pub minor : ℕ
+  pub phases : List (List Part)
+  pub parses : Parses bytes (parses minor phases)
+  pub outcome : Outcome
+  pub ran : IsOutcome minor phases outcome
+  pub wrote : Writes asked before after outcome result
+
+-- how a recording ends
+abbrev pub Records : Asked → Option (List ℕ) → Option (List ℕ) → Result Unit RecordingFault → List ℕ → List ℕ → Type 0
+Records asked before after (Err (BadScript line kind)) bytes rest = IsBadScript line kind bytes rest
+Records asked before after (Err ReadFault) bytes rest = ⊤
+Records asked before after (Err WantMemory) bytes rest = (after ≡ before) ⊎ IsRecorded asked before after (Err WantMemory) bytes rest
+Records asked before after result bytes rest = IsRecorded asked before after result bytes rest
+
+-- nothing was written where the text is no script or was not read
+abbrev pub Leaves : Result Unit RecordingFault → Type 0 → Type 0
+Leaves (Err (BadScript line kind)) unwritten = unwritten
+Leaves (Err ReadFault) unwritten = unwritten
+Leaves _ unwritten = ⊤
+
+-- a text that is a script no call of which can be refused
+abbrev pub IsSafeText : List ℕ → Type 0
+IsSafeText text = (minor : ℕ) × (phases : List (List Part)) × Parses text (parses minor phases) × Safe minor phases
+
+-- nothing but want of memory stopped the recording, or that a frame isn't there which is asked for
+abbrev pub IsUnstopped : Asked → Result Unit RecordingFault → Type 0
+IsUnstopped asked (Ok done) = ⊤
+IsUnstopped asked (Err WantMemory) = ⊤
+IsUnstopped (Between first last) (Err (NoSuchFrame low high)) = ⊤
+IsUnstopped asked (Err _) = ⊥

@@ -1,0 +1,41 @@
+//! What a run left, written.
+ghost use Rattle.std.specs.Prelude.{◌≡◌, ◌≤◌, Err};
+ghost use Rattle.gfx_io.specs.Causes.{Rose};
+ghost use Rattle.gfx_recording.specs.Records.{Writes};
+ghost use Rattle.gfx_recording.specs.Writing.{IsOrdered};
+
+use crate::RecordingFault;
+use crate::writing::{write_asked, write_halted};
+use gfx_io::Sink;
+use gfx_player::Asked;
+use gfx_recorder::Outcome;
+use std::alloc::Global;
+
+/// Writes what a run left: the frames that are asked for where each call was accepted, and else the whole log.
+pub(crate) fn write_outcome<K: Sink>(
+    alloc: Global,
+    asked: Asked,
+    outcome: Outcome,
+    sink: &mut K,
+) -> Result<(), RecordingFault>
+    requires { IsOrdered asked }
+    ensures wrote { Writes asked (K.taken sink.old) (K.taken sink.new) outcome result }
+    ensures sink_fault { result ≡ Err RecordingFault.SinkFault → Rose (K.faults sink.old) (K.faults sink.new) }
+    ensures later { K.faults sink.old ≤ K.faults sink.new }
+{
+    match outcome {
+        Outcome::Done { log } => write_asked(alloc, asked, &log, sink),
+        Outcome::Refused {
+            line,
+            fault,
+            at,
+            log,
+        } => write_halted(&log, RecordingFault::CallRefused { line, fault, at }, sink),
+        Outcome::LogFull {
+            length,
+            wanted,
+            log,
+        } => write_halted(&log, RecordingFault::LogFull { length, wanted }, sink),
+        Outcome::WantMemory => Err(RecordingFault::WantMemory),
+    }
+}
