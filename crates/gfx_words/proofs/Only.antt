@@ -1,13 +1,14 @@
 -- Words name at most one command.
-use Rattle.std.proofs.Common.{◌≡◌, ℕ, ◌==◌, Bool, true, false, List, [], ◌∷◌, length, get_or, Option, Some, None, refl, sym, ap, ◌∙◌, arith}
-use Rattle.std.specs.Prelude.{decimal, IfSome}
+use Rattle.std.proofs.Common.{◌≡◌, ℕ, ◌==◌, Bool, true, false, List, [], length, get_or, Option, Some, None, refl, sym, ap, ◌∙◌, arith}
+use Rattle.std.specs.Prelude.{IfSome}
 use Rattle.std.specs.List.{before_first, after_first}
 use Rattle.std.proofs.lemmas.Fmt.{decimal_injective}
 use Rattle.gfx_words.specs.declared.range.FrameRange.{FrameRange}
 use Rattle.gfx_words.specs.declared.command.Command.{Command}
 use Rattle.gfx_words.specs.declared.command.Command.TheVariants.{Info, Replay, Trim, Upgrade, Make, Help, Version}
 use Rattle.gfx_words.specs.Words.{range_text, FitsRange}
-use Rattle.gfx_words.specs.Commands.{words_of, Fits}
+use Rattle.gfx_words.specs.declared.recording.Recording.{Recording}
+use Rattle.gfx_words.specs.Commands.{recording_words, words_of, Fits, FitsFrames}
 use Rattle.gfx_words.proofs.Ranges.{range_cut}
 
 one_range : (r s : FrameRange) → FitsRange r → FitsRange s → range_text r ≡ range_text s → s ≡ r
@@ -60,3 +61,15 @@ pub only_one : (words : List (List ℕ)) (found : Option Command) → IfSome fou
     → IfSome found (λ c. (other : Command) → Fits other → words ≡ words_of other → other ≡ c)
 only_one words None some = tt
 only_one words (Some c) some = λ other fits is. one_command c other some.1 fits (sym some.0 ∙ is)
+
+one_recording : (r s : Option FrameRange) → FitsFrames r → FitsFrames s → recording_words (record { frames = r }) ≡ recording_words (record { frames = s }) → s ≡ r
+one_recording None None of_r of_s is = refl
+one_recording (Some r) None of_r of_s is = absurd (let n = ap length is in omega (arith, n))
+one_recording None (Some s) of_r of_s is = absurd (let n = ap length is in omega (arith, n))
+one_recording (Some r) (Some s) of_r of_s is = ap Some (one_range r s of_r of_s (ap (word_at 2) is))
+
+-- the recording that words are found to name is the only one
+pub only_recording : (words : List (List ℕ)) (found : Option Recording) → IfSome found (λ r. (words ≡ recording_words r) × FitsFrames r.frames)
+    → IfSome found (λ r. (other : Recording) → FitsFrames other.frames → words ≡ recording_words other → other ≡ r)
+only_recording words None some = tt
+only_recording words (Some r) some = λ other fits is. ap (λ frames. record { frames = frames }) (one_recording r.frames other.frames some.1 fits (sym some.0 ∙ is))

@@ -2,6 +2,7 @@
 use Rattle.std.specs.Prelude.{◌≤◌, ℕ, Bool, if◌then◌else◌, List, [], ◌∷◌, ◌++◌, Option, Some, None, codes, decimal, ⊤}
 use Rattle.gfx_words.specs.declared.range.FrameRange.{FrameRange}
 use Rattle.gfx_words.specs.declared.command.Command.{Command}
+use Rattle.gfx_words.specs.declared.recording.Recording.{Recording}
 use Rattle.gfx_words.specs.declared.command.Command.TheVariants.{Info, Replay, Trim, Upgrade, Make, Help, Version}
 use Rattle.gfx_words.specs.Words.{range_text, FitsRange}
 
@@ -23,6 +24,10 @@ words_of Upgrade = codes "upgrade" ∷ []
 words_of (Make frames) = codes "make" ∷ decimal frames ∷ []
 words_of Help = codes "--help" ∷ []
 words_of Version = codes "--version" ∷ []
+
+-- the words of a recording
+abbrev pub recording_words : Recording → List (List ℕ)
+recording_words r = codes "capture" ∷ frames_words r.frames
 
 -- a range that may be asked for
 abbrev pub FitsFrames : Option FrameRange → Type 0

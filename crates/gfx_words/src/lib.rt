@@ -4,6 +4,8 @@
 mod command;
 mod number;
 mod range;
+mod recording;
 
 pub use command::Command;
 pub use range::FrameRange;
+pub use recording::Recording;

@@ -1,0 +1,66 @@
+//! The words of a recording.
+ghost use Rattle.std.specs.Prelude.{◌≡◌, ◌≢◌, ◌∷◌, [], IfSome, IsNone, map, string_bytes};
+
+use crate::range::FrameRange;
+
+/// A recording, by its words: of all frames, or of those of a range.
+#[derive(Clone, Copy, Debug, PartialEq, Eq)]
+pub struct Recording {
+    pub frames: Option<FrameRange>,
+}
+
+impl Recording {
+    ghost use Rattle.gfx_words.specs.declared.recording.Recording.{Recording};
+    ghost use Rattle.gfx_words.specs.Commands.{recording_words, FitsFrames};
+
+    /// The recording that the words name.
+    pub fn of(words: &[String]) -> Option<Recording>
+        ensures some { IfSome result (λ r. (map string_bytes words.now ≡ recording_words r) × FitsFrames r.frames) }
+        ensures none { IsNone result → (r : Recording) → FitsFrames r.frames → map string_bytes words.now ≢ recording_words r }
+        ensures only { IfSome result (λ r. (other : Recording) → FitsFrames other.frames → map string_bytes words.now ≡ recording_words other → other ≡ r) }
+    {
+        Recording::by_count(words)
+    }
+
+    // The recording that the words name, looked for among those of so many words.
+    fn by_count(words: &[String]) -> Option<Recording>
+        ensures some { IfSome result (λ r. (map string_bytes words.now ≡ recording_words r) × FitsFrames r.frames) }
+        ensures none { IsNone result → (r : Recording) → FitsFrames r.frames → map string_bytes words.now ≢ recording_words r }
+    {
+        match words {
+            [word] => Recording::whole(word.as_str()),
+            [word, option, range] => Recording::between(
+                word.as_str(),
+                option.as_str(),
+                range.as_str(),
+            ),
+            _ => None,
+        }
+    }
+
+    // The recording of all frames.
+    fn whole(word: &str) -> Option<Recording>
+        ensures some { IfSome result (λ r. (word.now ∷ [] ≡ recording_words r) × FitsFrames r.frames) }
+        ensures none { IsNone result → (r : Recording) → FitsFrames r.frames → word.now ∷ [] ≢ recording_words r }
+    {
+        match word {
+            "capture" => Some(Recording { frames: None }),
+            _ => None,
+        }
+    }
+
+    // The recording of the frames of a range.
+    fn between(word: &str, option: &str, range: &str) -> Option<Recording>
+        ensures some { IfSome result (λ r. (word.now ∷ option.now ∷ range.now ∷ [] ≡ recording_words r) × FitsFrames r.frames) }
+        ensures none { IsNone result → (r : Recording) → FitsFrames r.frames → word.now ∷ option.now ∷ range.now ∷ [] ≢ recording_words r }
+    {
+        if word == "capture" && option == "--frames" {
+            let range = FrameRange::of(range)?;
+            Some(Recording {
+                frames: Some(range),
+            })
+        } else {
+            None
+        }
+    }
+}
