@@ -3,3 +3,7 @@ pub mod Events
 pub mod Ending
 pub mod Telling
 pub mod Deciding
+pub mod Recorded
+pub mod CaptureEnds
+pub mod CaptureTelling
+pub mod Choosing

@@ -6,3 +6,8 @@ pub mod Status
 pub mod Stop
 pub mod Ends
 pub mod Run
+pub mod Captures
+pub mod CaptureRun
+pub mod Seen
+pub mod FilesPromise
+pub mod CapturePromise

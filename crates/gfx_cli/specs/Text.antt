@@ -1,6 +1,10 @@
 -- The lines that the program prints.
 use Rattle.std.specs.Prelude.{ℕ, List, [], ◌++◌, codes}
 use Rattle.std.specs.Fmt.{decimal}
+use Rattle.gfx_types.specs.Names.{fault_number, fault_name}
+use Rattle.gfx_types.specs.declared.names.Fault.{Fault}
+use Rattle.gfx_script.specs.Kinds.{kind_name}
+use Rattle.gfx_script.specs.declared.kind.ScriptKind.{ScriptKind}
 use Rattle.gfx_model.specs.Blocks.{End, minor_of}
 use Rattle.gfx_model.specs.Blocks.End.{clean, bad}
 use Rattle.gfx_model.specs.Text.{counts_text, line}
@@ -27,6 +31,20 @@ read_fault_line = line (codes "read fault")
 unfoldable pub no_such_frame_line : ℕ → ℕ → List ℕ
 no_such_frame_line first last = line (codes "no such frame: the file has " ++ decimal first ++ codes " to " ++ decimal last)
 
+-- the first line of a script with a fault
+unfoldable pub bad_script_line : ℕ → ScriptKind → List ℕ
+bad_script_line number kind = line (codes "bad script line " ++ decimal number ++ codes ": " ++ kind_name kind)
+
+-- the line of a script whose call was refused, and why, behind so many blocks
+unfoldable pub refused_line : ℕ → Fault → ℕ → List ℕ
+refused_line number fault at =
+    line (codes "refused line " ++ decimal number ++ codes ": " ++ decimal (fault_number fault) ++ codes " " ++ fault_name fault
+    ++ codes " after " ++ decimal at ++ codes " blocks")
+
+-- the length of a log, and of the block for which it has no room
+unfoldable pub log_full_line : ℕ → ℕ → List ℕ
+log_full_line length wanted = line (codes "log full: " ++ decimal length ++ codes " and " ++ decimal wanted)
+
 -- what `--version` prints
 abbrev pub version_line : List ℕ
 version_line = line (codes "gfxcap 0.1.0")
@@ -39,4 +57,5 @@ help_text =
     ++ line (codes "info describes it, replay writes a line with the digest of each frame, with --pixels its rows too,")
     ++ line (codes "and trim writes the capture of these frames alone. make tries the program on a capture of N frames.")
     ++ line (codes "upgrade writes the capture in version 2.")
+    ++ line (codes "capture runs the script that it reads on threads, and writes the capture of their calls.")
     ++ line (codes "--help and --version alone write this text and the version.")

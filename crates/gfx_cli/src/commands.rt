@@ -33,6 +33,7 @@ A capture is read from standard input, and frames A to B are those with these nu
 info describes it, replay writes a line with the digest of each frame, with --pixels its rows too,
 and trim writes the capture of these frames alone. make tries the program on a capture of N frames.
 upgrade writes the capture in version 2.
+capture runs the script that it reads on threads, and writes the capture of their calls.
 --help and --version alone write this text and the version.
 ";
 
@@ -48,7 +49,7 @@ pub(crate) fn named_command(words: &[String]) -> Option<Command>
 }
 
 /// The frames that the words ask for.
-fn asked_by(frames: Option<FrameRange>) -> Asked
+pub(crate) fn asked_by(frames: Option<FrameRange>) -> Asked
     ensures { result ≡ asked_by frames }
 {
     match frames {

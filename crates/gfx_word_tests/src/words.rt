@@ -12,6 +12,7 @@ A capture is read from standard input, and frames A to B are those with these nu
 info describes it, replay writes a line with the digest of each frame, with --pixels its rows too,
 and trim writes the capture of these frames alone. make tries the program on a capture of N frames.
 upgrade writes the capture in version 2.
+capture runs the script that it reads on threads, and writes the capture of their calls.
 --help and --version alone write this text and the version.
 ";
 

@@ -1,7 +1,7 @@
 use Rattle.std.proofs.Common.{◌≡◌, ℕ, List, [], ◌∷◌, ◌++◌, append_assoc, rules, ◌∙◌}
-use Rattle.std.specs.Prelude.{IfOk, codes, decimal, string_bytes}
+use Rattle.std.specs.Prelude.{codes, decimal, string_bytes}
 use Rattle.std.proofs.lemmas.Result.{IfOk-weaker}
-use Rattle.gfx_model.specs.Text.{count_lines, line}
+use Rattle.gfx_model.specs.Text.{count_lines}
 use Rattle.gfx_cli.proofs.counts.Counts.text.Goals as goal
 
 abbrev feed : List ℕ

@@ -23,7 +23,7 @@ use crate::notes::{note, tell};
 use gfx_io::{Sink, Source};
 use std::alloc::Global;
 
-const USAGE: &str =
+pub(crate) const USAGE: &str =
     "usage: gfxcap info; replay [--pixels] [--frames A-B]; trim A-B; capture [--frames A-B]; make N; upgrade\n";
 
 /// Runs a command over a source and two sinks, one for its answer and one for notes.

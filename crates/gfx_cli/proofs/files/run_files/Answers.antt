@@ -13,7 +13,7 @@ use Rattle.gfx_cli.specs.declared.stop.Stop.TheVariants as stop
 use Rattle.gfx_cli.proofs.Deciding.{bad_stops, good_not_bad, good_not_lacking, good_stops, lack_stops, told_at}
 use Rattle.gfx_cli.proofs.Ending.{front_of}
 use Rattle.gfx_cli.proofs.Telling.{bad_told, by_cause, lack_told, misses_none, read_told, status_tells, stop_is_built, stop_status, text_status, text_wants, told_exactly}
-use Rattle.gfx_cli.proofs.run.run_files.Goals as goal
+use Rattle.gfx_cli.proofs.files.run_files.Goals as goal
 
 pub returns-in_default-clause-noted : goal.returns-in_default-clause-noted
 returns-in_default-clause-noted g c = inr (usage_line, usage_noted (c.in_default.ensures.none refl), c.note.ensures.front)

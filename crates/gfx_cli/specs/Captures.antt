@@ -1,0 +1,113 @@
+-- How a recording ends, over the bytes that the source had left and has left.
+use Rattle.std.specs.Prelude.{◌≡◌, ◌⊎◌, ◌≤◌, ℕ, true, List, [], length, Option, Some, None, Result, Ok, Err, ⊤}
+use Rattle.std.specs.Io.KnownBytes.{Appends}
+use Rattle.gfx_io.specs.Pieces.{AppendsPart}
+use Rattle.gfx_model.specs.History.{is_valid}
+use Rattle.gfx_model.specs.Limits.{max_script}
+use Rattle.gfx_script_model.specs.Scripts.{Part, Parses, parses, fails}
+use Rattle.gfx_script_model.specs.Runs.{Entry, Matches, history}
+use Rattle.gfx_script.specs.Kinds.{kind_of}
+use Rattle.gfx_script.specs.State.{ParsesAs}
+use Rattle.gfx_script.specs.declared.kind.ScriptKind.{ScriptKind}
+use Rattle.gfx_log_law.specs.Logs.{log_file}
+use Rattle.gfx_run_law.specs.Halted.{IsHalted}
+use Rattle.gfx_recorder.specs.Outcomes.{IsRefusedAt, IsFullAt}
+use Rattle.gfx_recording.specs.Records.{IsBadScript}
+use Rattle.gfx_recording.specs.declared.fault.RecordingFault.{RecordingFault}
+use Rattle.gfx_recording.specs.declared.fault.RecordingFault.TheVariants.{BadScript, CallRefused, LogFull, NoSuchFrame, ReadFault, SinkFault, WantMemory}
+use Rattle.gfx_trim.specs.Keeps.{Keeps}
+use Rattle.gfx_trim.specs.Trims.{IsWithout}
+use Rattle.gfx_trim.specs.Written.{written}
+use Rattle.gfx_words.specs.declared.range.FrameRange.{FrameRange}
+use Rattle.gfx_cli.specs.declared.status.Status.{Status}
+use Rattle.gfx_cli.specs.declared.status.Status.TheVariants as status
+use Rattle.gfx_cli.specs.Text.{bad_script_line, refused_line, log_full_line, no_such_frame_line, read_fault_line}
+
+-- the source was read to its end, its text is a script, and this is so of the script and of a log
+pub record IsRun (P : ℕ → List (List Part) → List Entry → Type 0) (bytes rest : List ℕ) : Type 0 where
+  pub read : rest ≡ []
+  pub minor : ℕ
+  pub phases : List (List Part)
+  pub parses : Parses bytes (parses minor phases)
+  pub log : List Entry
+  pub so : P minor phases log
+
+-- every call was accepted: the log has all lines of the script, and is a valid history
+pub record IsWhole (m : ℕ) (phases : List (List Part)) (log : List Entry) : Type 0 where
+  pub matches : Matches m phases log
+  pub valid : is_valid (history log) ≡ true
+
+-- the sink took this file, or of a range one that shows just these frames of it
+abbrev pub Took : Option FrameRange → Option (List ℕ) → Option (List ℕ) → List ℕ → Type 0
+Took None before after file = Appends before after file
+Took (Some r) before after file = Keeps r.first r.last before after file
+
+-- the file has frames with these numbers, the range is not among them, and the sink took what stands of it
+abbrev pub Lacks : Option FrameRange → Option (List ℕ) → Option (List ℕ) → ℕ → ℕ → List ℕ → Type 0
+Lacks None before after first last file = ⊥
+Lacks (Some r) before after first last file = IsWithout r.first r.last before after first last file []
+
+-- what is written of the file of a log
+abbrev pub written_of : Option FrameRange → List ℕ → List ℕ
+written_of None file = file
+written_of (Some r) file = written r.first r.last file
+
+-- the sink took a front of what is written of a log: of one in which a call was not accepted that is the whole file
+abbrev pub TookFront : Option FrameRange → Option (List ℕ) → Option (List ℕ) → ℕ → List (List Part) → List Entry → Type 0
+TookFront frames before after m phases log =
+    (IsWhole m phases log × AppendsPart before after (written_of frames (log_file m log)))
+    ⊎ (IsHalted m phases log × AppendsPart before after (log_file m log))
+
+-- how a recording ends
+abbrev pub Ends : Option FrameRange → Option (List ℕ) → Option (List ℕ) → Result Unit RecordingFault → List ℕ → List ℕ → Type 0
+Ends frames before after (Ok done) bytes rest =
+    IsRun (λ m phases log. IsWhole m phases log × Took frames before after (log_file m log)) bytes rest
+Ends frames before after (Err (NoSuchFrame first last)) bytes rest =
+    IsRun (λ m phases log. IsWhole m phases log × Lacks frames before after first last (log_file m log)) bytes rest
+Ends frames before after (Err (CallRefused line fault at)) bytes rest =
+    IsRun (λ m phases log. IsRefusedAt m phases log line fault at × Appends before after (log_file m log)) bytes rest
+Ends frames before after (Err (LogFull long wanted)) bytes rest =
+    IsRun (λ m phases log. IsFullAt m phases log long wanted × Appends before after (log_file m log)) bytes rest
+Ends frames before after (Err (BadScript line kind)) bytes rest = IsBadScript line kind bytes rest
+Ends frames before after (Err ReadFault) bytes rest = ⊤
+Ends frames before after (Err SinkFault) bytes rest = IsRun (TookFront frames before after) bytes rest
+Ends frames before after (Err WantMemory) bytes rest = (after ≡ before) ⊎ IsRun (TookFront frames before after) bytes rest
+
+-- a text that is no longer than a script may be is none, and this is its first line with a fault
+pub record IsFault (line : ℕ) (kind : ScriptKind) (bytes : List ℕ) : Type 0 where
+  pub few : length bytes ≤ max_script
+  pub fails : ParsesAs bytes (fails line (kind_of kind))
+
+-- nothing but want of memory stopped the recording, or that a frame isn't there which is asked for
+abbrev pub IsUnstopped : Option FrameRange → Result Unit RecordingFault → Type 0
+IsUnstopped frames (Ok done) = ⊤
+IsUnstopped frames (Err WantMemory) = ⊤
+IsUnstopped (Some r) (Err (NoSuchFrame low high)) = ⊤
+IsUnstopped frames (Err _) = ⊥
+
+-- the same, by the status
+abbrev pub IsUnstoppedAt : Option FrameRange → Status → Type 0
+IsUnstoppedAt frames status.Done = ⊤
+IsUnstoppedAt frames status.WantMemory = ⊤
+IsUnstoppedAt (Some r) status.NoSuchFrame = ⊤
+IsUnstoppedAt frames _ = ⊥
+
+-- the status with which the program ends
+abbrev pub status_of : RecordingFault → Status
+status_of (BadScript line kind) = status.BadScript
+status_of (CallRefused line fault at) = status.CallRefused
+status_of (LogFull long wanted) = status.LogFull
+status_of (NoSuchFrame first last) = status.NoSuchFrame
+status_of ReadFault = status.ReadFault
+status_of SinkFault = status.WriteFault
+status_of WantMemory = status.WantMemory
+
+-- the line in the notes, if there is one
+abbrev pub line_of : RecordingFault → List ℕ
+line_of (BadScript line kind) = bad_script_line line kind
+line_of (CallRefused line fault at) = refused_line line fault at
+line_of (LogFull long wanted) = log_full_line long wanted
+line_of (NoSuchFrame first last) = no_such_frame_line first last
+line_of ReadFault = read_fault_line
+line_of SinkFault = []
+line_of WantMemory = []
