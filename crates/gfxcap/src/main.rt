@@ -1,8 +1,8 @@
 //! Records, trims and replays captures of Vulkan calls.
 #![tactic(auto)]
 
-use gfx_cli::{Status, run_files};
-use gfx_io::{StdSink, StdSource};
+use gfx_cli::{Status, run};
+use gfx_io::{NoGate, StdSink, StdSource};
 use std::alloc::{AllocError, Global};
 use std::env;
 use std::io::BufReader;
@@ -15,7 +15,15 @@ fn main(rt: HostRuntime) -> ExitCode {
     let mut source = StdSource::new(input);
     let mut sink = StdSink::new(rt.stdout());
     let mut notes = StdSink::new(rt.stderr());
-    let status = run_files(rt.alloc(), &words, &mut source, &mut sink, &mut notes);
+    let status = run(
+        &rt,
+        rt.alloc(),
+        &words,
+        &mut source,
+        &mut sink,
+        &mut notes,
+        &NoGate,
+    );
     ExitCode::from(status.code())
 }
 
