@@ -54,7 +54,8 @@ fn record_frames<R: Threads + Wait + Sync, S: Source, K: Sink, G: Gate + Sync>(
     ensures sink_fault { result ≡ Err why.SinkFault → Rose (K.faults sink.old) (K.faults sink.new) }
     ensures later { (S.faults source.old ≤ S.faults source.new) × (K.faults sink.old ≤ K.faults sink.new) }
 {
-    record(rt, alloc, asked_by(frames), source, sink, gate)
+    let asked = asked_by(frames);
+    record(rt, alloc, asked, source, sink, gate)
 }
 
 /// Reads a script to its end, runs its threads, and writes the log that they leave, over a source and two sinks. It may wait.
