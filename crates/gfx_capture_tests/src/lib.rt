@@ -1,0 +1,13 @@
+//! Tests of captures: two passes, batches, and eight threads that call at once.
+#![tactic(auto)]
+
+#[cfg(test)]
+mod batches;
+#[cfg(test)]
+mod blocks;
+#[cfg(test)]
+mod many_threads;
+#[cfg(test)]
+mod taking;
+#[cfg(test)]
+mod two_passes;

@@ -1,0 +1,60 @@
+//! Two passes on one thread, worked out by hand.
+ghost use Rattle.gfx_callers.specs.Caller.{CallsAt};
+
+use crate::taking::take_last;
+use gfx_callers::{Caller, Creation, Use, close, open};
+use gfx_capture::{AppendFault, Capture, Receipt};
+use gfx_types::Fault;
+use std::alloc::Global;
+use std::process::Abort;
+use std::sync::Wait;
+use std::test::Fail;
+
+/// The first pass creates an instance and the second ends it, so a device of it is refused.
+fn act<R: Abort + Wait>(
+    rt: &R,
+    alloc: Global,
+    capture: &Capture,
+    first: &mut Caller,
+    second: &mut Caller,
+)
+    requires first { CallsAt first.old capture.now }
+    requires second { CallsAt second.old capture.now }
+    ensures first { CallsAt first.new capture.now }
+    ensures second { CallsAt second.new capture.now }
+{
+    let made = first.create(rt, alloc, capture, Creation::Instance);
+    assert_eq!(rt; made, Ok((1, Receipt { from: 0, count: 1 })));
+    assert_eq!(rt; second.written(capture), 1);
+
+    let ended = second.make(rt, alloc, capture, Use::DestroyInstance { instance: 1 });
+    assert_eq!(rt; ended, Ok(Receipt { from: 1, count: 1 }));
+
+    let late = first.create(rt, alloc, capture, Creation::Device { instance: 1 });
+    let refused = AppendFault::Refused {
+        fault: Fault::NotLive,
+        at: 2,
+        done: 0,
+    };
+    assert_eq!(rt; late, Err(refused));
+
+    first.meet(capture, second);
+    assert_eq!(rt; first.written(capture), 2);
+}
+
+#[test]
+fn two_passes_share_one_history(rt: HostRuntime) -> Result<(), Fail> {
+    let alloc = rt.alloc();
+    let (capture, mut callers) = open(alloc, 2)?;
+    let mut first = take_last(&rt, &capture, &mut callers);
+    let mut second = take_last(&rt, &capture, &mut callers);
+    assert_eq!(rt; (first.thread(), second.thread()), (0, 1));
+    act(&rt, alloc, &capture, &mut first, &mut second);
+    let log = close(alloc, capture, vec![in alloc; first, second]?)?;
+    assert_eq!(rt; log.blocks(), 2);
+    let bytes = log.bytes();
+    assert_eq!(rt; bytes.len(), 84);
+    let threads = (bytes.get(32), bytes.get(68));
+    assert_eq!(rt; threads, (Some(&0), Some(&1)), "the threads of both blocks");
+    Ok(())
+}
