@@ -55,8 +55,8 @@ const OTHERS: [&[&str]; 20] = [
     &["make", "1001"],
 ];
 
-/// Words of commands that are not built.
-const UNBUILT: [&[&str]; 2] = [&["capture"], &["capture", "--frames", "1-1"]];
+/// Words of a recording, which is no command over files.
+const RECORDINGS: [&[&str]; 2] = [&["capture"], &["capture", "--frames", "1-1"]];
 
 #[test]
 fn words_outside_the_grammar_are_answered_by_the_usage_line(rt: HostRuntime) -> Result<(), Fail> {
@@ -71,8 +71,8 @@ fn words_outside_the_grammar_are_answered_by_the_usage_line(rt: HostRuntime) -> 
 }
 
 #[test]
-fn words_of_commands_that_are_not_built_are_answered_so_too(rt: HostRuntime) -> Result<(), Fail> {
-    for words in UNBUILT {
+fn words_of_a_recording_are_no_command_over_files(rt: HostRuntime) -> Result<(), Fail> {
+    for words in RECORDINGS {
         Outside::of(words, b"").ends(rt.alloc(), 2, b"", USAGE)?;
     }
     Ok(())
