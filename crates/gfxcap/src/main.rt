@@ -5,7 +5,7 @@ use gfx_cli::{Status, run};
 use gfx_io::{NoGate, StdSink, StdSource};
 use std::alloc::{AllocError, Global};
 use std::env;
-use std::io::BufReader;
+use std::io::{BufReader, ErrorKind};
 use std::process::ExitCode;
 
 fn main(rt: HostRuntime) -> ExitCode {
@@ -27,11 +27,12 @@ fn main(rt: HostRuntime) -> ExitCode {
     ExitCode::from(status.code())
 }
 
-/// The words after the program's name. Words that can't be read are none.
+/// The words after the program's name. Words that aren't UTF-8 are none.
 fn words_of(rt: &HostRuntime) -> Result<Vec<String>, AllocError> {
     let alloc = rt.alloc();
     match env::args(rt) {
         Ok(args) => args.skip(1).collect(alloc),
+        Err(error) if error.kind() == ErrorKind::OutOfMemory => Err(AllocError),
         Err(_) => Ok(Vec::new(alloc)),
     }
 }
