@@ -1,0 +1,48 @@
+//! How a script is run in tests.
+
+use gfx_capture::Log;
+use gfx_io::Gate;
+use gfx_recorder::{Outcome, record_script};
+use gfx_script::{ScriptFault, parse};
+use gfx_types::Fault;
+use std::alloc::{AllocError, Global};
+use std::sync::Wait;
+use std::test::Fail;
+use std::thread::Threads;
+
+/// The line that is refused, why, and behind how many blocks.
+pub(crate) type Refusal = (u32, Fault, u64);
+
+/// A text that is these, one behind the other.
+pub(crate) fn joined(alloc: Global, pieces: &[&[u8]]) -> Result<Vec<u8>, AllocError> {
+    let mut text = Vec::new(alloc);
+    for piece in pieces {
+        text.extend_from_slice(piece)?;
+    }
+    Ok(text)
+}
+
+/// Runs the script that a text is, and gives what is refused, if anything is, and the log.
+pub(crate) fn record<R: Threads + Wait + Sync, G: Gate + Sync>(
+    rt: &R,
+    alloc: Global,
+    gate: &G,
+    text: &[u8],
+) -> Result<(Option<Refusal>, Log), Fail> {
+    let script = match parse(alloc, text) {
+        Ok(script) => script,
+        Err(ScriptFault::Bad { .. }) => return Err(Fail::new("no script")),
+        Err(ScriptFault::WantMemory) => return Err(Fail::new("no memory")),
+    };
+    match record_script(rt, alloc, gate, &script) {
+        Outcome::Done { log } => Ok((None, log)),
+        Outcome::Refused {
+            line,
+            fault,
+            at,
+            log,
+        } => Ok((Some((line, fault, at)), log)),
+        Outcome::LogFull { .. } => Err(Fail::new("the log is full")),
+        Outcome::WantMemory => Err(Fail::new("no memory")),
+    }
+}

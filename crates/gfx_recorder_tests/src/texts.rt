@@ -1,0 +1,61 @@
+//! The lines of scripts.
+
+/// Makes a swapchain, and a buffer with the texels of its image.
+pub(crate) const OBJECTS: &[u8] = b"\
+phase
+thread 0
+inst = vkCreateInstance api=4194304
+surf = vkCreateHeadlessSurfaceEXT instance=inst
+dev = vkCreateDevice instance=inst
+q = vkGetDeviceQueue device=dev
+sc = vkCreateSwapchainKHR device=dev surface=surf images=1 format=13 width=3 height=1 usage=3
+img = vkGetSwapchainImagesKHR device=dev swapchain=sc
+f = vkCreateFence device=dev flags=0
+mem = vkAllocateMemory device=dev size=64
+vkMapMemory device=dev memory=mem offset=0 size=18446744073709551615
+write memory=mem offset=0 bytes=616263
+buf = vkCreateBuffer device=dev size=16 usage=1
+vkBindBufferMemory device=dev buffer=buf memory=mem offset=0
+";
+
+/// Begins a command buffer.
+pub(crate) const BEGIN: &[u8] = b"\
+pool = vkCreateCommandPool device=dev flags=2
+cb = vkAllocateCommandBuffers device=dev pool=pool
+vkBeginCommandBuffer cb=cb flags=0
+";
+
+/// One command.
+pub(crate) const BARRIER: &[u8] = b"vkCmdPipelineBarrier cb=cb barriers=[(img,0,7)]\n";
+
+/// Copies the texels.
+pub(crate) const COPY: &[u8] =
+    b"vkCmdCopyBufferToImage cb=cb source=buf target=img layout=7 regions=[(0,0,0,0,0,3,1)]\n";
+
+/// Copies more texels than there are.
+pub(crate) const LONG_COPY: &[u8] =
+    b"vkCmdCopyBufferToImage cb=cb source=buf target=img layout=7 regions=[(0,0,0,0,0,4,1)]\n";
+
+/// Ends the command buffer.
+pub(crate) const END: &[u8] = b"\
+vkCmdPipelineBarrier cb=cb barriers=[(img,7,1000001002)]
+vkEndCommandBuffer cb=cb
+";
+
+/// Presents what the command buffer draws.
+pub(crate) const PRESENT: &[u8] = b"\
+vkAcquireNextImageKHR device=dev swapchain=sc semaphore=0 fence=f index=0 answer=0
+vkQueueSubmit queue=q submits=[([],[cb],[])] fence=0
+vkQueuePresentKHR queue=q waits=[] swapchain=sc index=0
+";
+
+/// Two threads with two lines each, none of which names what the other thread makes.
+pub(crate) const TWO_THREADS: &[u8] = b"\
+phase
+thread 0
+one = vkCreateInstance api=4194304
+surf = vkCreateHeadlessSurfaceEXT instance=one
+thread 1
+other = vkCreateInstance api=4194304
+more = vkCreateHeadlessSurfaceEXT instance=other
+";
