@@ -1,4 +1,4 @@
-//! The text of the fields of calls and metadata, read and written, whatever ids are written like.
+//! The text of the fields of calls and metadata, read whatever ids are written like.
 #![tactic(auto)]
 
 mod fault;
