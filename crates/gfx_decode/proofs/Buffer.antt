@@ -21,3 +21,19 @@ piece_behind held old new after front k len count is there some long =
     ∙ take-append-le (front + count) (put_mid front k old new) after (omega (arith, room, some))
     ∙ take-put_mid_part front k count old new there some
     ∙ ap (λ (xs : List ℕ). xs ++ take count new) is
+
+-- a part was put at the front
+pub front_filled : (room all : List ℕ) (k n : ℕ) → length all ≡ n → take n (put_mid 0 k room all) ≡ all
+front_filled room all k n long = take-append-le n all (post_of 0 k room) (omega (arith, long)) ∙ take_all n all (omega (arith, long))
+
+-- two parts were put one behind the other, the first of sixteen bytes
+pub filled : (into start options first second : List ℕ) (j k n : ℕ) → first ≡ start → second ≡ options → length start ≡ 16 → n ≤ length options
+    → take (16 + n) (put_mid 16 k (put_mid 0 j into first) second) ≡ start ++ take n options
+filled into start options first second j k n is also long fits =
+    let whole : length first ≡ 16 = ap length is ∙ long in
+    let room : 16 ≤ length (put_mid 0 j into first) = omega (arith, whole, length-append first (post_of 0 j into)) in
+    let inside : n ≤ length second = omega (arith, ap length also, fits) in
+    take-put_mid_part 16 k n (put_mid 0 j into first) second room inside
+    ∙ ap (λ (xs : List ℕ). xs ++ take n second) (take-put_mid_part 0 j 16 into first (omega arith) (omega (arith, whole)) ∙ take_all 16 first (omega (arith, whole)))
+    ∙ ap (λ (xs : List ℕ). xs ++ take n second) is
+    ∙ ap (λ (xs : List ℕ). start ++ take n xs) also

@@ -89,7 +89,7 @@ past-in_reach at size begins ends reach small room = in_reach at size begins end
 
 -- ---- a block without room, or without content, whatever follows it
 
-full : (n : ℕ) → nat_le (2 ^ 32) n ≡ true → 2 ^ 32 ≤ n
+pub full : (n : ℕ) → nat_le (2 ^ 32) n ≡ true → 2 ^ 32 ≤ n
 full n is = grind (arith, nat_tests)
 
 pub not_full : (n : ℕ) → nat_le (2 ^ 32) n ≡ false → n < 2 ^ 32

@@ -7,9 +7,11 @@ use Rattle.gfx_grammar.specs.Splitting.{Blocks, blocks_from, blocks_of, only_end
 use Rattle.gfx_blocks.specs.Payloads.{content_of}
 use Rattle.gfx_blocks.specs.declared.header.Header.{Header}
 use Rattle.gfx_decode.specs.Stage.{Stage, Fresh, At, Failed}
+use Rattle.gfx_decode.specs.declared.decoder.FramedBlock.{FramedBlock}
 use Rattle.gfx_decode.specs.declared.decoder.Raw.{Raw}
 use Rattle.gfx_decode.specs.declared.fault.DecodeFault.{DecodeFault}
 use Rattle.gfx_decode.specs.declared.fault.DecodeFault.TheVariants.{Bad, ReadFault, WantMemory}
+use Rattle.gfx_decode.specs.Reading.{IsFramed}
 
 -- the block, as it stands in the file
 abbrev pub item_of : Raw → Whole
@@ -54,6 +56,29 @@ abbrev pub Goes : Stage → Result (Option Raw) DecodeFault → Stage → Type 0
 Goes old (Ok (Some raw)) new = new ≡ behind old raw
 Goes old (Ok None) new = new ≡ old
 Goes old (Err why) new = new ≡ Failed why
+
+-- the same of a block whose payload isn't looked at: its head is in order, its payload is there, and it has room on its side
+pub record IsFramedHere (at : Position) (b : FramedBlock) : Type 0 where
+  pub number : b.number ≡ at.number
+  pub offset : b.offset ≡ at.offset
+  pub framed : IsFramed b.framing.kind b.framing.size b.bytes.now
+  pub counted : side_count at b.bytes.now < 2 ^ 32
+
+abbrev pub IsFramedAt : Stage → FramedBlock → Type 0
+IsFramedAt Fresh b = ⊥
+IsFramedAt (At minor at) b = IsFramedHere at b
+IsFramedAt (Failed why) b = ⊥
+
+-- the stage behind it
+abbrev pub behind_framed : Stage → FramedBlock → Stage
+behind_framed Fresh b = Fresh
+behind_framed (At minor at) b = At minor (next_position at b.bytes.now)
+behind_framed (Failed why) b = Failed why
+
+abbrev pub GoesFramed : Stage → Result (Option FramedBlock) DecodeFault → Stage → Type 0
+GoesFramed old (Ok (Some b)) new = new ≡ behind_framed old b
+GoesFramed old (Ok None) new = new ≡ old
+GoesFramed old (Err why) new = new ≡ Failed why
 
 -- where the first block stands, behind so many options
 abbrev pub start_of : Header → Position

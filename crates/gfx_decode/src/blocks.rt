@@ -1,5 +1,5 @@
 // The block in a buffer.
-ghost use Rattle.std.specs.Prelude.{◌≡◌, ◌<◌, ◌≤◌, ◌^◌, ℕ, IfOk, IfErr};
+ghost use Rattle.std.specs.Prelude.{◌≡◌, ◌<◌, ◌≤◌, ◌^◌, ℕ, IfOk, IfErr, OnErr};
 ghost use Rattle.gfx_model.specs.Blocks.{side_count};
 ghost use Rattle.gfx_grammar.specs.Framing.{IsBlock};
 ghost use Rattle.gfx_blocks.specs.Payloads.{content_of};
@@ -21,6 +21,7 @@ pub fn place_behind(at: Position, framing: Framing, buffer: &[u8]) -> Result<Pos
     requires framed { IsFramed framing.kind framing.size buffer.now }
     ensures leads { IfOk result (λ next. LeadsTo (position_of at) buffer.now (position_of next)) }
     ensures fault { (m : ℕ) → IfErr result (StopsInBytes m (position_of at) buffer.now) }
+    ensures full { OnErr result (2 ^ 32 ≤ side_count (position_of at) buffer.now) }
 {
     let payload = &buffer[12..];
     let begins = is_marker(1, framing, payload);

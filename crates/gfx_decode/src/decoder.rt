@@ -1,5 +1,5 @@
 // A decoder, by the place of its next block.
-ghost use Rattle.std.specs.Prelude.{◌≡◌, ◌≢◌, ◌+◌, ◌^◌, ◌≤◌, ℕ, List, IfOk, IfErr, IfSome, None, Some};
+ghost use Rattle.std.specs.Prelude.{◌≡◌, ◌≢◌, ◌+◌, ◌*◌, ◌^◌, ◌≤◌, ℕ, List, take, IfOk, IfErr, IfSome, None, Some};
 ghost use Rattle.std.specs.Io.KnownBytes.{Consumes, IsAtEnd};
 ghost use Rattle.gfx_io.specs.Causes.{Rose};
 ghost use Rattle.gfx_io.specs.Told.{IfTold};
@@ -9,8 +9,8 @@ use crate::DecodeFault;
 use crate::blocks::{block_in, place_behind};
 use crate::places::first_position;
 use crate::position::Position;
-use crate::reading::{fetch, read_front};
-use gfx_blocks::Header;
+use crate::reading::{MOST_HEADER, fetch, read_front};
+use gfx_blocks::{Framing, Header};
 use gfx_io::Source;
 use gfx_types::Block;
 use std::alloc::Global;
@@ -20,6 +20,16 @@ use std::marker::Model;
 #[derive(Debug, Drop)]
 pub struct Raw<'a> {
     pub block: Block<'a>,
+    pub bytes: &'a [u8],
+    pub number: u64,
+    pub offset: u64,
+}
+
+/// A block with its exact bytes, of which all is checked but what the payload behind its first twelve bytes says, and its place
+/// in the file: its number from 1 on, and its offset in bytes.
+#[derive(Debug, Drop)]
+pub struct FramedBlock<'a> {
+    pub framing: Framing,
     pub bytes: &'a [u8],
     pub number: u64,
     pub offset: u64,
@@ -53,7 +63,7 @@ impl Model for Decoder {
 }
 
 impl Decoder {
-    ghost use Rattle.gfx_decode.specs.Decoding.{Gives, GivesHeader, Goes, IsBlockAt, stage_after};
+    ghost use Rattle.gfx_decode.specs.Decoding.{Gives, GivesHeader, Goes, GoesFramed, IsBlockAt, IsFramedAt, stage_after};
     ghost use Rattle.gfx_decode.specs.Reading.{IsHeader, ReadsSome, StopsAt, StopsInHeader};
     ghost use Rattle.gfx_decode.specs.Stage.{Fresh, At, Failed};
 
@@ -78,7 +88,26 @@ impl Decoder {
         ensures cause { result ≡ Err DecodeFault.ReadFault → Rose (S.faults source.old) (S.faults source.new) }
         ensures after { self.new ≡ stage_after result }
     {
-        match read_front(source) {
+        self.header_into(source, &mut [0; MOST_HEADER])
+    }
+
+    /// Reads the header as `header` does, and leaves its bytes at the front of `into`: sixteen, and eight for each option.
+    pub fn header_into<S: Source>(
+        &mut self,
+        source: &mut S,
+        into: &mut [u8; MOST_HEADER],
+    ) -> Result<Header, DecodeFault>
+        requires { self.old ≡ Fresh }
+        ensures gives { IfTold (S.left source.old) (S.left source.new) (GivesHeader result) }
+        ensures bytes { IfOk result (λ header. IsHeader header (take (16 + 8 * header.options) into.new)
+            × Consumes (S.left source.old) (S.left source.new) (take (16 + 8 * header.options) into.new)) }
+        ensures fault { IfErr result (StopsInHeader (S.left source.old) (S.left source.new)) }
+        ensures reads { ReadsSome (S.left source.old) (S.left source.new) }
+        ensures later { S.faults source.old ≤ S.faults source.new }
+        ensures cause { result ≡ Err DecodeFault.ReadFault → Rose (S.faults source.old) (S.faults source.new) }
+        ensures after { self.new ≡ stage_after result }
+    {
+        match read_front(source, into) {
             Ok(header) => {
                 self.state = State::At {
                     minor: header.minor,
@@ -151,6 +180,68 @@ impl Decoder {
                 self.state = State::At { minor, at: next };
                 Ok(Some(Raw {
                     block,
+                    bytes: buffer,
+                    number: at.number,
+                    offset: at.offset,
+                }))
+            }
+            Err(why) => {
+                self.state = State::Failed(why);
+                Err(why)
+            }
+        }
+    }
+
+    /// The next block, lent from the buffer, with all checked but what its payload says, or the end of the file. After a fault it
+    /// answers the same again, and reads nothing. What the buffer held is lost.
+    pub fn next_framed<'b, S: Source>(
+        &mut self,
+        source: &mut S,
+        buffer: &'b mut Vec<u8>,
+    ) -> Result<Option<FramedBlock<'b>>, DecodeFault>
+        requires { self.old ≢ Fresh }
+
+        // The block stands where the decoder was, and what its payload says is left to be asked.
+        ensures block { IfOk result (λ found. IfSome found (IsFramedAt self.old)) }
+        ensures few { IfOk result (λ found. IfSome found (λ block. block.number ≤ 2 ^ 33 + 1)) }
+
+        // The end of the file, or a fault, is answered just as `next` answers it.
+        ensures none { result ≡ Ok None → IfTold (S.left source.old) (S.left source.new) (Gives self.old (Ok None)) }
+        ensures err { IfErr result (λ why. IfTold (S.left source.old) (S.left source.new) (Gives self.old (Err why))) }
+
+        // Just the bytes of the block were read, and at a fault some of those that were left.
+        ensures reads { ReadsSome (S.left source.old) (S.left source.new) }
+        ensures bytes { IfOk result (λ found. IfSome found (λ block. Consumes (S.left source.old) (S.left source.new) block.bytes.now)) }
+        ensures end { result ≡ Ok None → IsAtEnd (S.left source.old) × IsAtEnd (S.left source.new) }
+        ensures fault { (minor : ℕ) → (at : blocks.Position) → self.old ≡ At minor at
+            → IfErr result (StopsAt minor at (S.left source.old) (S.left source.new)) }
+        ensures stays { (why : DecodeFault) → self.old ≡ Failed why
+            → (result ≡ Err why) × (source.new ≡ source.old) }
+        ensures later { S.faults source.old ≤ S.faults source.new }
+        ensures cause { result ≡ Err DecodeFault.ReadFault → self.old ≢ Failed DecodeFault.ReadFault
+            → Rose (S.faults source.old) (S.faults source.new) }
+
+        // It stands behind the block afterwards, or has failed from then on.
+        ensures after { GoesFramed self.old result self.new }
+    {
+        let (minor, at) = match self.state {
+            State::At { minor, at } => (minor, at),
+            State::Failed(fault) => return Err(fault),
+            State::Fresh => unreachable!(),
+        };
+        let framing = match fetch(source, at, buffer) {
+            Ok(Some(framing)) => framing,
+            Ok(None) => return Ok(None),
+            Err(why) => {
+                self.state = State::Failed(why);
+                return Err(why);
+            }
+        };
+        match place_behind(at, framing, buffer) {
+            Ok(next) => {
+                self.state = State::At { minor, at: next };
+                Ok(Some(FramedBlock {
+                    framing,
                     bytes: buffer,
                     number: at.number,
                     offset: at.offset,

@@ -1,5 +1,5 @@
 // The reads of a file: its header, the size and type of a block, and its payload.
-ghost use Rattle.std.specs.Prelude.{◌≡◌, ◌<◌, ◌≤◌, ◌+◌, ◌*◌, ◌^◌, ℕ, List, [], ◌++◌, length, vec_len, IfOk, OnOk, IfSome, IfErr, None, Some};
+ghost use Rattle.std.specs.Prelude.{◌≡◌, ◌<◌, ◌≤◌, ◌+◌, ◌*◌, ◌^◌, ℕ, List, [], ◌++◌, length, take, vec_len, IfOk, OnOk, IfSome, IfErr, None, Some};
 ghost use Rattle.std.specs.Io.KnownBytes.{Consumes, IsAtEnd};
 ghost use Rattle.gfx_io.specs.Causes.{Rose};
 ghost use Rattle.gfx_model.specs.Blocks.{options_fault};
@@ -17,23 +17,53 @@ use gfx_types::Fault;
 /// How many bytes of a payload are asked for at once, so that a large size over a short file takes no memory.
 const PIECE: usize = 1 << 16;
 
+/// The bytes that every header begins with.
+const START: usize = 16;
+
 /// The most bytes that the options of a header have.
 const MOST_OPTIONS: usize = 8 * 16;
 
-/// Reads the header with its options.
-pub fn read_front<S: Source>(source: &mut S) -> Result<Header, DecodeFault>
-    ensures good { IfOk result (λ header. (bytes : List ℕ) × IsHeader header bytes × Consumes (S.left source.old) (S.left source.new) bytes) }
+/// The most bytes that a header has, with its options.
+pub const MOST_HEADER: usize = START + MOST_OPTIONS;
+
+/// Reads the header with its options, and leaves its bytes at the front of `into`.
+pub fn read_front<S: Source>(
+    source: &mut S,
+    into: &mut [u8; MOST_HEADER],
+) -> Result<Header, DecodeFault>
+    ensures good { IfOk result (λ header. IsHeader header (take (16 + 8 * header.options) into.new)
+        × Consumes (S.left source.old) (S.left source.new) (take (16 + 8 * header.options) into.new)) }
     ensures fault { IfErr result (StopsInHeader (S.left source.old) (S.left source.new)) }
     ensures reads { ReadsSome (S.left source.old) (S.left source.new) }
     ensures later { S.faults source.old ≤ S.faults source.new }
     ensures cause { result ≡ Err DecodeFault.ReadFault → Rose (S.faults source.old) (S.faults source.new) }
 {
-    let mut start = [0; 16];
-    if fill(source, &mut start)? < start.len() {
+    let mut start = [0; START];
+    let mut options = [0; MOST_OPTIONS];
+    let header = read_parts(source, &mut start, &mut options)?;
+    into[..START].copy_from_slice(&start);
+    into[START..].copy_from_slice(&options);
+    Ok(header)
+}
+
+/// Reads the start of the header and its options.
+fn read_parts<S: Source>(
+    source: &mut S,
+    start: &mut [u8; START],
+    options: &mut [u8; MOST_OPTIONS],
+) -> Result<Header, DecodeFault>
+    ensures good { IfOk result (λ header. IsHeader header (start.new ++ take (8 * header.options) options.new)
+        × Consumes (S.left source.old) (S.left source.new) (start.new ++ take (8 * header.options) options.new)) }
+    ensures fault { IfErr result (StopsInHeader (S.left source.old) (S.left source.new)) }
+    ensures reads { ReadsSome (S.left source.old) (S.left source.new) }
+    ensures later { S.faults source.old ≤ S.faults source.new }
+    ensures cause { result ≡ Err DecodeFault.ReadFault → Rose (S.faults source.old) (S.faults source.new) }
+{
+    if fill(source, start)? < start.len() {
         return Err(DecodeFault::bad(Fault::Truncated, 0, 0));
     }
-    match read_start(&start) {
-        Ok(header) => read_options(source, header, &mut [0; MOST_OPTIONS]),
+    match read_start(start) {
+        Ok(header) => read_options(source, header, options),
         Err(fault) => Err(DecodeFault::bad(fault, 0, 0)),
     }
 }
@@ -45,8 +75,8 @@ fn read_options<S: Source>(
     room: &mut [u8; MOST_OPTIONS],
 ) -> Result<Header, DecodeFault>
     requires { header.options ≤ 16 }
-    ensures good { IfOk result (λ read. (read ≡ header) × ((options : List ℕ) × (length options ≡ 8 * header.options)
-        × (options_fault options 0 0 header.options ≡ None) × Consumes (S.left source.old) (S.left source.new) options)) }
+    ensures good { IfOk result (λ read. (read ≡ header) × (options_fault (take (8 * header.options) room.new) 0 0 header.options ≡ None)
+        × Consumes (S.left source.old) (S.left source.new) (take (8 * header.options) room.new)) }
     ensures fault { IfErr result (StopsInOptions header.options (S.left source.old) (S.left source.new)) }
     ensures reads { ReadsSome (S.left source.old) (S.left source.new) }
     ensures later { S.faults source.old ≤ S.faults source.new }

@@ -5,4 +5,4 @@ mod digest;
 mod lines;
 mod rows;
 
-pub use lines::{Listing, PrintFault, write_frame};
+pub use lines::{Listing, PrintFault, picture_line, title_at, write_frame};

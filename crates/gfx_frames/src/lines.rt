@@ -102,8 +102,9 @@ fn write_pictures<B: StateBytes, K: Sink>(
     Ok(())
 }
 
-/// The number of a frame, and in minor version 2 that of the image, counted from 1.
-fn title_at(alloc: Global, minor: u32, number: u64, index: usize) -> Result<String, AllocError>
+/// The title of an image by its index, from 0 on: the number of its frame, and in minor version 2 that of the image, counted
+/// from 1.
+pub fn title_at(alloc: Global, minor: u32, number: u64, index: usize) -> Result<String, AllocError>
     requires { index < 2 ^ 63 }
     ensures { IfOk result (λ text. string_bytes text ≡ title_of minor number (1 + index)) }
 {
@@ -176,7 +177,7 @@ fn write_digest<B: StateBytes, K: Sink>(
 }
 
 /// The line of an image: its title, extent, format and digest.
-fn picture_line(
+pub fn picture_line(
     alloc: Global,
     title: &str,
     picture: &ShownPicture,

@@ -81,7 +81,7 @@ shown_more a pixels was p old new shown f last file left rest before middle afte
 
 -- ---- a frame that isn't written whole
 
-write_fails : (a : Asked) (pixels : Bool) (why : PlayFault) (before after : Option (List ℕ)) (all rest : List ℕ) → IsUnwritten why → AppendsPart before after (text_in a pixels all) →
+pub write_fails : (a : Asked) (pixels : Bool) (why : PlayFault) (before after : Option (List ℕ)) (all rest : List ℕ) → IsUnwritten why → AppendsPart before after (text_in a pixels all) →
     Answers a pixels before after (Err why) all rest
 write_fails a pixels (play.Bad fault block offset) before after all rest is part = absurd is
 write_fails a pixels (play.NoSuchFrame first last) before after all rest is part = absurd is
@@ -104,7 +104,7 @@ show_fails a pixels was p old shown f why file left rest before middle after s n
 
 -- ---- no further frame comes
 
-stops : (a : Asked) (pixels : Bool) (shown : List Frame) (why : PlayFault) (before after : Option (List ℕ)) (all rest : List ℕ) → has_last a shown ≡ false →
+pub stops : (a : Asked) (pixels : Bool) (shown : List Frame) (why : PlayFault) (before after : Option (List ℕ)) (all rest : List ℕ) → has_last a shown ≡ false →
     Appends before after (lines_of (listing_of (minor_of all) pixels) (asked_of a shown)) → IsStopped shown why all rest → Answers a pixels before after (Err why) all rest
 stops a pixels shown (play.Bad fault block offset) before after all rest unseen text s = record {
   end = s.stops.ends;

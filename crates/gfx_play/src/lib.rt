@@ -5,3 +5,4 @@ mod play;
 mod screen;
 
 pub use play::show_frames;
+pub use screen::Screen;

@@ -20,18 +20,17 @@ use gfx_player::{Asked, PlayFault, Player};
 use gfx_replay::ShownFrame;
 use std::alloc::{AllocError, Global};
 
-/// Which frames are written, and how.
+/// Which frames are written and how, and how many were.
 #[derive(Drop)]
-pub(crate) struct Screen {
+pub struct Screen {
     pub asked: Asked,
     pub listing: Listing,
-    // how many frames were written
     pub count: u64,
 }
 
 impl Screen {
     /// Writes the frame that the player shows, where it is asked for. Answers whether no later frame is asked for.
-    pub(crate) fn show<K: Sink>(
+    pub fn show<K: Sink>(
         &mut self,
         alloc: Global,
         frame: &ShownFrame,
@@ -63,7 +62,7 @@ impl Screen {
     }
 
     /// Writes the line with the number of frames.
-    pub(crate) fn finish<K: Sink>(&self, alloc: Global, sink: &mut K) -> Result<(), PlayFault>
+    pub fn finish<K: Sink>(&self, alloc: Global, sink: &mut K) -> Result<(), PlayFault>
         ensures ok { OnOk result (Appends (K.taken sink.old) (K.taken sink.new) (count_line (codes "frames") self.now.count)) }
         ensures front { AppendsPart (K.taken sink.old) (K.taken sink.new) (count_line (codes "frames") self.now.count) }
         ensures err { IfErr result IsUnwritten }
@@ -76,7 +75,7 @@ impl Screen {
     }
 
     /// Ends at the clean end of the file: all frames were asked for, or one that is asked for isn't there.
-    pub(crate) fn end<K: Sink>(
+    pub fn end<K: Sink>(
         &self,
         alloc: Global,
         player: &Player,

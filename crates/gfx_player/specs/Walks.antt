@@ -1,21 +1,24 @@
 -- What a player stands for.
 use Rattle.std.specs.Prelude.{◌≡◌, ℕ, ◌+◌, ◌-◌, ◌^◌, ◌≤◌, List, [], ◌∷◌, ◌++◌, length, Option, Some, None, unwrap_or, ⊤}
 use Rattle.std.specs.List.{AllByRecursion}
+use Rattle.gfx_types.specs.declared.effect.Block.{Block}
 use Rattle.gfx_types.specs.declared.names.Fault.{Fault}
 use Rattle.gfx_types.specs.declared.frame.Frame.{Frame}
 use Rattle.gfx_io.specs.Told.{IfTold}
 use Rattle.gfx_model.specs.Events.{Event}
-use Rattle.gfx_model.specs.Blocks.{Content, Whole, minor_of}
+use Rattle.gfx_model.specs.Blocks.{Content, Position, Whole, minor_of}
 use Rattle.gfx_model.specs.Blocks.End.{clean}
 use Rattle.gfx_model.specs.Frames.{frames}
 use Rattle.gfx_model.specs.History.{view}
 use Rattle.gfx_model.specs.Meaning.{content_fault}
+use Rattle.gfx_blocks.specs.Payloads.{content_of}
 use Rattle.gfx_tracker.specs.Tracker.{answers}
 use Rattle.gfx_replay.specs.Fed.{AreShown, frame_by}
 use Rattle.gfx_replay.specs.Replayer.{StandsFor, bytes_of}
 use Rattle.gfx_replay.specs.Shown.{IsThere, frame_of}
 use Rattle.gfx_replay.specs.declared.shown.ShownFrame.{ShownFrame}
 use Rattle.gfx_decode.specs.Reachable.{IsBehind}
+use Rattle.gfx_decode.specs.Stage.{At}
 use Rattle.gfx_player.specs.declared.player.Player.{Player}
 use Rattle.gfx_player.specs.declared.fault.PlayFault.{PlayFault}
 use Rattle.gfx_player.specs.declared.fault.PlayFault.TheVariants.{Bad, NoSuchFrame, ReadFault, SinkFault, WantMemory}
@@ -35,6 +38,13 @@ pub record HasRead (p : Player) (fed : List Whole) (file left : Option (List ℕ
   pub place : IsBehind (length fed) p.decoder
   pub told : IfTold file left (λ bytes rest. IsFed fed p.decoder bytes rest × (p.minor ≡ minor_of bytes))
 
+-- a player stands before a block, in a file of its minor version
+pub record IsAtBlock (p : Player) : Type 0 where
+  pub at : Position
+  pub place : p.decoder ≡ At p.minor at
+  pub low : 1 ≤ p.minor
+  pub high : p.minor ≤ 2
+
 -- what was replayed is as it was
 pub record IsReplayedAlike (old new : Player) : Type 0 where
   pub replayer : new.replayer ≡ old.replayer
@@ -51,6 +61,10 @@ pub record Replays (new : Player) (fed : List Whole) (w : Whole) (shown : Option
   pub replayed : HasReplayed new (fed ++ w ∷ [])
   pub shows : AreShown (bytes_of new.replayer) shown (frame_by (history_of fed) w.content)
   pub fine : content_fault (history_of fed) w.content ≡ None
+
+-- a block that says this, in its place
+abbrev pub whole_of : ℕ → ℕ → List ℕ → Block → Whole
+whole_of number offset bytes block = record { number = number; offset = offset; bytes = bytes; content = content_of block }
 
 -- why a block is not taken behind this history: by its rule fault, or for a write or memory
 abbrev pub Refuses : List Event → Whole → PlayFault → Type 0

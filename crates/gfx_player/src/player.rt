@@ -1,17 +1,20 @@
 //! A walk through a capture file.
 ghost use Rattle.std.specs.Prelude.{◌≡◌, ◌≤◌, ◌<◌, ◌+◌, ◌-◌, ◌^◌, ◌∷◌, ◌++◌, ℕ, List, [], length, IfOk, IfErr, IfSome, Some, None, Ok, Err};
 ghost use Rattle.std.specs.declared.option.Option.{Option as Maybe};
+ghost use Rattle.std.specs.Io.KnownBytes.{Consumes, IsAtEnd};
 ghost use Rattle.gfx_io.specs.Causes.{Rose};
 ghost use Rattle.gfx_io.specs.Told.{IfTold};
 ghost use Rattle.gfx_types.specs.declared.names.Fault.{Fault as FileFault};
 ghost use Rattle.gfx_types.specs.declared.frame.Frame.{Frame};
-ghost use Rattle.gfx_model.specs.Blocks.{Whole};
+ghost use Rattle.gfx_model.specs.Blocks.{Position, Whole};
 ghost use Rattle.gfx_model.specs.Blocks.End.{clean};
 ghost use Rattle.gfx_model.specs.Meaning.{content_fault};
-ghost use Rattle.gfx_decode.specs.Decoding.{item_of};
+ghost use Rattle.gfx_decode.specs.Decoding.{Gives, GoesFramed, IsFramedAt, item_of};
+ghost use Rattle.gfx_decode.specs.Reading.{ReadsSome, StopsAt};
+ghost use Rattle.gfx_decode.specs.Stage.{At};
 
 use crate::PlayFault;
-use gfx_decode::{Decoder, Raw};
+use gfx_decode::{DecodeFault, Decoder, FramedBlock, Raw};
 use gfx_io::Source;
 use gfx_replay::{FeedFault, Replayer, ShownFrame};
 use gfx_types::{Block, Fault};
@@ -32,13 +35,14 @@ impl Player {
     ghost use Rattle.gfx_player.specs.Faults.{IsReplayFault, IsWalkFault};
     ghost use Rattle.gfx_player.specs.Fed.{history_of};
     ghost use Rattle.gfx_player.specs.Ends.{EndsBehind, IsStopped, StopsBehind};
-    ghost use Rattle.gfx_player.specs.Walks.{HasAll, HasRead, HasReplayed, IsReadAlike, IsReplayedAlike, Plays, Refuses, Replays, ShowsNext, first_frame_of, next_frame_of, told_of};
+    ghost use Rattle.gfx_player.specs.Walks.{HasAll, HasRead, HasReplayed, IsAtBlock, IsReadAlike, IsReplayedAlike, Plays, Refuses, Replays, ShowsNext, first_frame_of, next_frame_of, told_of, whole_of};
 
     /// Reads the header of a file, and stands before its first block.
     pub fn open<S: Source>(alloc: Global, source: &mut S) -> Result<Player, PlayFault>
         ensures replayed { IfOk result (λ p. HasReplayed p []) }
         ensures read { IfOk result (λ p. HasRead p [] (S.left source.old) (S.left source.new)) }
         ensures plays { IfOk result (λ p. Plays p [] (S.left source.old) (S.left source.new)) }
+        ensures place { IfOk result IsAtBlock }
         ensures err { IfErr result (λ why. IfTold (S.left source.old) (S.left source.new) (StopsBehind [] why)) }
         ensures kind { IfErr result IsWalkFault }
         ensures stopped { IfErr result (λ why. IfTold (S.left source.old) (S.left source.new) (IsStopped [] why)) }
@@ -78,6 +82,31 @@ impl Player {
         Ok(self.decoder.next(source, buffer)?)
     }
 
+    /// Reads the next block, lent from the buffer, with all checked but what its payload says, or finds the clean end of the
+    /// file. Once its payload is decoded the block is fed as any other, in its turn.
+    pub fn next_framed<'b, S: Source>(
+        &mut self,
+        source: &mut S,
+        buffer: &'b mut Vec<u8>,
+    ) -> Result<Option<FramedBlock<'b>>, DecodeFault>
+        requires going { IsBehind 0 self.old.decoder }
+        ensures block { IfOk result (λ found. IfSome found (IsFramedAt self.old.decoder)) }
+        ensures few { IfOk result (λ found. IfSome found (λ block. block.number ≤ 2 ^ 33 + 1)) }
+        ensures none { result ≡ Ok None → IfTold (S.left source.old) (S.left source.new) (Gives self.old.decoder (Ok None)) }
+        ensures err { IfErr result (λ why. IfTold (S.left source.old) (S.left source.new) (Gives self.old.decoder (Err why))) }
+        ensures reads { ReadsSome (S.left source.old) (S.left source.new) }
+        ensures bytes { IfOk result (λ found. IfSome found (λ block. Consumes (S.left source.old) (S.left source.new) block.bytes.now)) }
+        ensures end { result ≡ Ok None → IsAtEnd (S.left source.new) }
+        ensures fault { (minor : ℕ) → (at : Position) → self.old.decoder ≡ At minor at
+            → IfErr result (StopsAt minor at (S.left source.old) (S.left source.new)) }
+        ensures kept { IsReplayedAlike self.old self.new }
+        ensures after { GoesFramed self.old.decoder result self.new.decoder }
+        ensures later { S.faults source.old ≤ S.faults source.new }
+        ensures cause { result ≡ Err DecodeFault.ReadFault → Rose (S.faults source.old) (S.faults source.new) }
+    {
+        self.decoder.next_framed(source, buffer)
+    }
+
     /// The fault of a block that was read and isn't replayed yet.
     pub fn fault_of(&self, raw: &Raw<'_>) -> Option<PlayFault>
         ensures { (fed : List Whole) → HasReplayed self.now fed → result ≡ told_of (item_of raw.now) (content_fault (history_of fed) (item_of raw.now).content) }
@@ -85,7 +114,7 @@ impl Player {
         match &raw.block {
             Block::Skip => None,
             Block::Effect { effect, .. } => match self.replayer.tracker().fault_of(effect) {
-                Some(fault) => Some(bad(raw, fault)),
+                Some(fault) => Some(bad(fault, raw.number, raw.offset)),
                 None => None,
             },
         }
@@ -100,13 +129,29 @@ impl Player {
         ensures kind { IfErr result IsReplayFault }
         ensures same { IsReadAlike self.old self.new }
     {
-        match self.replayer.feed(&raw.block) {
+        self.feed_block(&raw.block, raw.number, raw.offset)
+    }
+
+    /// Replays a block, as `feed` does, by what it says and its number and offset, whatever its bytes are.
+    pub fn feed_block(
+        &mut self,
+        block: &Block<'_>,
+        number: u64,
+        offset: u64,
+    ) -> Result<Option<ShownFrame>, PlayFault>
+        ensures ok { IfOk result (λ shown. (fed : List Whole) → (bytes : List ℕ) → HasReplayed self.old fed → Replays self.new fed (whole_of number offset bytes block.now) shown) }
+        ensures err { IfErr result (λ why. (fed : List Whole) → (bytes : List ℕ) → HasReplayed self.old fed → Refuses (history_of fed) (whole_of number offset bytes block.now) why) }
+        ensures refused { (fault : FileFault) → (n : ℕ) → (place : ℕ) → result ≡ Err (PlayFault.Bad fault n place) → self.new ≡ self.old }
+        ensures kind { IfErr result IsReplayFault }
+        ensures same { IsReadAlike self.old self.new }
+    {
+        match self.replayer.feed(block) {
             Ok(Some(frame)) => {
                 self.first = Some(self.first.unwrap_or(frame.number));
                 Ok(Some(frame))
             }
             Ok(None) => Ok(None),
-            Err(FeedFault::Rule(fault)) => Err(bad(raw, fault)),
+            Err(FeedFault::Rule(fault)) => Err(bad(fault, number, offset)),
             Err(FeedFault::WantMemory) => Err(PlayFault::WantMemory),
         }
     }
@@ -182,12 +227,12 @@ impl Player {
 }
 
 /// The block is bad.
-fn bad(raw: &Raw<'_>, fault: Fault) -> PlayFault
-    ensures { result ≡ PlayFault.Bad fault raw.now.number raw.now.offset }
+fn bad(fault: Fault, block: u64, offset: u64) -> PlayFault
+    ensures { result ≡ PlayFault.Bad fault block offset }
 {
     PlayFault::Bad {
         fault,
-        block: raw.number,
-        offset: raw.offset,
+        block,
+        offset,
     }
 }

@@ -53,7 +53,7 @@ written_good all ws good is = ap (λ (o : Option Fault). if is_none o then upgra
 written_bad : (all : List ℕ) (f : Fault) → header_fault all ≡ Some f → upgraded all ≡ []
 written_bad all f wrong = ap (λ (o : Option Fault). if is_none o then upgraded_by (blocks_of all).items else []) wrong
 
-good_header : (fed : List Whole) (stage : Stage) (all rest : List ℕ) → IsFed fed stage all rest → header_fault all ≡ None
+pub good_header : (fed : List Whole) (stage : Stage) (all rest : List ℕ) → IsFed fed stage all rest → header_fault all ≡ None
 good_header fed stage all rest f =
     ap header_fault (f.parts ∙ append_assoc f.head (flat_map (λ w. w.bytes) fed) rest) ∙ header_fault-append f.head (flat_map (λ w. w.bytes) fed ++ rest) f.header
 
@@ -136,7 +136,7 @@ is_bad stage before after fault block offset all left rest u gives =
     }
 
 -- bytes that end within a header have a bad one
-short_header : (bytes : List ℕ) → IsHeaderCut bytes → (f : Fault) × (header_fault bytes ≡ Some f)
+pub short_header : (bytes : List ℕ) → IsHeaderCut bytes → (f : Fault) × (header_fault bytes ≡ Some f)
 short_header bytes cut = by (header_fault bytes) refl cut
   where
     by : (o : Option Fault) → header_fault bytes ≡ o → IsHeaderCut bytes → (f : Fault) × (header_fault bytes ≡ Some f)

@@ -1,5 +1,7 @@
 use Rattle.std.proofs.Common.{refl}
 use Rattle.std.proofs.lemmas.Result.{err_from_is_err_and}
+use Rattle.gfx_decode.specs.Decoding.{start_of}
+use Rattle.gfx_decode.proofs.Front.{header_bounds}
 use Rattle.gfx_player.proofs.Walking.{decoder_kind, header_stops_walk, none_shown, plays_none, read_none, replayed_none}
 use Rattle.gfx_player.proofs.player.Player.open.Goals as goal
 
@@ -30,3 +32,9 @@ pub returns-clause-plays : goal.returns-clause-plays
 returns-clause-plays g c =
     let (bytes, is, reads) = c.in_ok-header.ensures.bytes in
     plays_none _ _ _ (replayed_none _ c.new.ensures refl) (read_none _ c.in_ok-header.header bytes _ _ c.in_ok-header.ensures.after refl is reads c.in_ok-header.ensures.gives)
+
+pub returns-clause-place : goal.returns-clause-place
+returns-clause-place g c =
+    let (bytes, is, reads) = c.in_ok-header.ensures.bytes in
+    let (low, high, few) = header_bounds c.in_ok-header.header bytes is in
+    record { at = start_of c.in_ok-header.header; place = c.in_ok-header.ensures.after; low = low; high = high }
