@@ -1,0 +1,10 @@
+//! What `replay` says of a file, with payloads decoded and images digested by as many threads as there are processors.
+#![tactic(auto)]
+
+mod decode;
+mod digest;
+mod fault;
+
+pub use decode::{Framed, decode_all};
+pub use digest::{Digest, digest_all};
+pub use fault::FanFault;
