@@ -1,0 +1,3 @@
+pub mod ShortLines
+pub mod EndedLines
+pub mod Readable
