@@ -1,6 +1,6 @@
 // Lines that are read and written again, and lines that are bad.
-use crate::lines::{BAD, CALLS, METAS, PRESENTS};
 use gfx_text::{Left, Numbered, TextFault, read_call, read_meta};
+use gfx_text_samples::{BAD, CALLS, METAS, PRESENTS};
 use gfx_text_writer::{show_call, show_meta};
 use gfx_types::{Call, Meta, WantMemory};
 use std::alloc::Global;

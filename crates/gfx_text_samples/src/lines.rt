@@ -1,7 +1,7 @@
-// Lines of each call and metadata, as a listing has them behind the thread, and what they say.
+//! Lines of each call and metadata, as a listing has them behind the thread, without the vk of calls, and what they say.
 
 /// Calls that both minor versions write so.
-pub(crate) const CALLS: [(&str, &str); 47] = [
+pub const CALLS: [(&str, &str); 47] = [
     (
         "CreateInstance instance=11 api=84",
         "CreateInstance { instance: 11, api: 84 }",
@@ -181,7 +181,7 @@ pub(crate) const CALLS: [(&str, &str); 47] = [
 ];
 
 /// Presents, as version 1 writes them and as version 2 does.
-pub(crate) const PRESENTS: [(u32, &str, &str); 2] = [
+pub const PRESENTS: [(u32, &str, &str); 2] = [
     (
         1,
         "QueuePresentKHR queue=3 waits=[8,9] swapchain=5 index=1",
@@ -194,7 +194,8 @@ pub(crate) const PRESENTS: [(u32, &str, &str); 2] = [
     ),
 ];
 
-pub(crate) const METAS: [(&str, &str); 4] = [
+/// Metadata.
+pub const METAS: [(&str, &str); 4] = [
     (
         "FillMemory memory=153 offset=154000462 bytes=00ff10a9",
         "FillMemory { memory: 153, offset: 154000462, bytes: [0, 255, 16, 169] }",
@@ -214,7 +215,7 @@ pub(crate) const METAS: [(&str, &str); 4] = [
 ];
 
 /// Lines of no call of version 1, and what is wrong with each.
-pub(crate) const BAD: [(&str, &str); 25] = [
+pub const BAD: [(&str, &str); 25] = [
     (
         "a number with a leading zero",
         "DestroyInstance instance=01",
