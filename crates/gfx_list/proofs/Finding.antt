@@ -1,0 +1,164 @@
+-- Where the first line feed stands in what was read.
+use Rattle.std.proofs.Common.{◌≡◌, ℕ, zero, suc, ◌+◌, ◌-◌, ◌<◌, ◌≤◌, ◌==◌, not, Bool, true, false, List, [], ◌∷◌, ◌++◌, length, take, drop, get_or, ◌⊎◌, Option, Some, None, inl, inr, refl, sym, ap, subst, ◌∙◌, arith, append_assoc, length-drop, length-take-le, take-append-drop}
+use Rattle.std.specs.Prelude.{MatchOption, Err}
+use Rattle.std.specs.Io.KnownBytes.{Consumes, IsAtEnd, Keeps}
+use Rattle.std.proofs.KnownBytes.{Consumes-nil, Consumes-trans}
+use Rattle.std.proofs.Math.Seq.{split_at, take-add}
+use Rattle.std.proofs.lemmas.Bool.{eqb-true, and_from}
+use Rattle.std.proofs.lemmas.List.{append-nil, drop-drop, nil_from_length, take_at, take_rest}
+use borrow.Rule.Slice.PartMut.{put_mid}
+use Rattle.gfx_decode.specs.Reading.{ReadsSome}
+use Rattle.gfx_decode.proofs.Buffer.{piece_behind}
+use Rattle.gfx_text_grammar.specs.Splits.{is_without}
+use Rattle.gfx_text_grammar.proofs.SplitLaws.{without-append}
+use Rattle.memchr.specs.Find.{IsFirstByte, NoneBefore, Nowhere, Passes, is_byte}
+use Rattle.gfx_listing_law.specs.Fronts.{IsLongLine, max_line_bytes}
+use Rattle.gfx_list.specs.Lines.{EndsInLine, Finds, FindsFeed, HasLineTo, IsUngiven, Reads}
+use Rattle.gfx_list.specs.declared.fault.UnlistFault.{UnlistFault}
+use Rattle.gfx_list.specs.declared.fault.UnlistFault.TheVariants.{BadListing, ReadFault, SinkFault, WantMemory}
+
+-- ---- a byte that is searched
+
+is_false : (b : Bool) → ¬ (b ≡ true) → b ≡ false
+is_false true h = absurd (h refl)
+is_false false h = refl
+
+-- the byte stands at no place before k
+without_front : (c k : ℕ) (xs : List ℕ) → ((i : ℕ) → i < k → (get_or xs i 0 == c) ≡ false) → is_without c (take k xs) ≡ true
+without_front c zero xs none = refl
+without_front c (suc k) [] none = refl
+without_front c (suc k) (x ∷ xs) none = and_from _ _ (ap not (none 0 (omega arith))) (without_front c k xs (λ i less. none (suc i) (omega (arith, less))))
+
+-- nor anywhere
+without_all : (c : ℕ) (xs : List ℕ) → ((i : ℕ) → i < length xs → (get_or xs i 0 == c) ≡ false) → is_without c xs ≡ true
+without_all c [] none = refl
+without_all c (x ∷ xs) none = and_from _ _ (ap not (none 0 (omega arith))) (without_all c xs (λ i less. none (suc i) (omega (arith, less))))
+
+-- it stands at k first
+at_first : (c k : ℕ) (xs : List ℕ) → k < length xs → (get_or xs k 0 == c) ≡ true → xs ≡ take k xs ++ (c ∷ drop (k + 1) xs)
+at_first c k xs within here =
+    let behind : suc k ≡ k + 1 = omega arith in
+    split_at xs k 0 within
+    ∙ ap (λ b. take k xs ++ (b ∷ drop (suc k) xs)) (eqb-true (get_or xs k 0) c here)
+    ∙ ap (λ n. take k xs ++ (c ∷ drop n xs)) behind
+
+-- a text without the byte in front, and a search behind that
+pub feed_found : (searched k : ℕ) (text : List ℕ) → searched ≤ length text → is_without 10 (take searched text) ≡ true
+    → NoneBefore (Passes (is_byte 10) (drop searched text)) 0 (length (drop searched text)) k → Passes (is_byte 10) (drop searched text) k → HasLineTo (searched + k) text
+feed_found searched k text room before none here =
+    let rest = drop searched text in
+    let within : k < length rest = none.high in
+    let places = length-drop searched text in
+    let front : take (searched + k) text ≡ take searched text ++ take k rest = take-add searched k text in
+    let behind : drop (k + 1) rest ≡ drop (searched + k + 1) text =
+    let sum : searched + (k + 1) ≡ searched + k + 1 = omega arith in
+    drop-drop (k + 1) searched text ∙ ap (λ n. drop n text) sum in
+    let without : is_without 10 (take k rest) ≡ true = without_front 10 k rest (λ i less. is_false (get_or rest i 0 == 10) (none.before i (omega arith) (omega (arith, less)))) in
+    record {
+      within = omega (arith, within, places, room);
+      whole = sym (take-append-drop searched text)
+          ∙ ap (λ (xs : List ℕ). take searched text ++ xs) (at_first 10 k rest within here)
+          ∙ sym (append_assoc (take searched text) (take k rest) (10 ∷ drop (k + 1) rest))
+          ∙ ap (λ (xs : List ℕ). xs ++ (10 ∷ drop (k + 1) rest)) (sym front)
+          ∙ ap (λ (xs : List ℕ). take (searched + k) text ++ (10 ∷ xs)) behind
+          ∙ sym (append_assoc (take (searched + k) text) (10 ∷ []) (drop (searched + k + 1) text));
+      without = ap (is_without 10) front ∙ without-append 10 (take searched text) (take k rest) before without;
+    }
+
+pub feed_none : (searched : ℕ) (text : List ℕ) → is_without 10 (take searched text) ≡ true
+    → Nowhere (Passes (is_byte 10) (drop searched text)) 0 (length (drop searched text)) → is_without 10 text ≡ true
+feed_none searched text before none =
+    let rest = drop searched text in
+    ap (is_without 10) (sym (take-append-drop searched text))
+    ∙ without-append 10 (take searched text) rest before (without_all 10 rest (λ i less. is_false (get_or rest i 0 == 10) (none i (omega arith) less)))
+
+-- what a search behind so many bytes answers
+pub feed_at : (searched : ℕ) (text part : List ℕ) (r : Option ℕ) → searched ≤ length text → is_without 10 (take searched text) ≡ true → part ≡ drop searched text
+    → IsFirstByte (is_byte 10) part r → MatchOption r (is_without 10 text ≡ true) (λ k. HasLineTo (searched + k) text)
+feed_at searched text part None room before is found = feed_none searched text before (subst (λ xs. IsFirstByte (is_byte 10) xs None) is found)
+feed_at searched text part (Some k) room before is found =
+    let here = subst (λ xs. IsFirstByte (is_byte 10) xs (Some k)) is found in
+    feed_found searched k text room before here.0 here.1
+
+-- ---- what was read
+
+pub reads_none : (old : List ℕ) (left : Option (List ℕ)) → Reads old left old left
+reads_none old left = ([], Consumes-nil left, sym (append-nil old))
+
+pub reads_then : (old mid new : List ℕ) (a b c : Option (List ℕ)) (piece : List ℕ) → Reads old a mid b → new ≡ mid ++ piece → Consumes b c piece → Reads old a new c
+reads_then old mid new a b c piece (first, came, is) grown more =
+    (first ++ piece, Consumes-trans a b c first piece came more, grown ∙ ap (λ (xs : List ℕ). xs ++ piece) is ∙ append_assoc old first piece)
+
+-- nothing came
+pub reads_same : (old mid new : List ℕ) (a b c : Option (List ℕ)) → Reads old a mid b → new ≡ mid → Consumes b c [] → Reads old a new c
+reads_same old mid new a b c reads same more = reads_then old mid new a b c [] reads (same ∙ sym (append-nil mid)) more
+
+pub reads_some : (old new : List ℕ) (a b c : Option (List ℕ)) → Reads old a new b → Consumes b c [] → ReadsSome a c
+reads_some old new a b c (first, came, is) more = (first ++ [], Consumes-trans a b c first [] came more)
+
+-- an empty piece leaves what there was
+pub same_text : (old new piece : List ℕ) (count : ℕ) → length piece ≡ count → count ≡ 0 → new ≡ old ++ piece → new ≡ old
+same_text old new piece count long none is = is ∙ ap (λ (xs : List ℕ). old ++ xs) (nil_from_length piece (long ∙ none)) ∙ append-nil old
+
+-- what was searched stays in front
+pub searched_front : (old new piece : List ℕ) (n : ℕ) → n ≡ length old → new ≡ old ++ piece → is_without 10 old ≡ true → is_without 10 (take n new) ≡ true
+searched_front old new piece n long is without = ap (λ xs. is_without 10 (take n xs)) is ∙ ap (is_without 10) (take_at old piece n (sym long)) ∙ without
+
+-- no piece came for this reason
+pub feed_unread : (old mid new : List ℕ) (a b c : Option (List ℕ)) (why : UnlistFault) → IsUngiven why → Reads old a mid b → is_without 10 mid ≡ true
+    → (why ≡ ReadFault → new ≡ mid) → Consumes b c [] → FindsFeed old a new c (Err why)
+feed_unread old mid new a b c (BadListing at) ungiven reads without kept none = absurd ungiven
+feed_unread old mid new a b c ReadFault ungiven reads without kept none =
+    (reads_same old mid new a b c reads (kept refl) none, ap (is_without 10) (kept refl) ∙ without)
+feed_unread old mid new a b c SinkFault ungiven reads without kept none = absurd ungiven
+feed_unread old mid new a b c WantMemory ungiven reads without kept none = reads_some old mid a b c reads none
+
+-- ---- lines
+
+-- a line feed that was not found for this reason
+pub line_unread : (number : ℕ) (old new : List ℕ) (a b : Option (List ℕ)) (why : UnlistFault) → FindsFeed old a new b (Err why) → Finds number old a new b (Err why)
+line_unread number old new a b (BadListing at) h = absurd h
+line_unread number old new a b ReadFault h = h
+line_unread number old new a b SinkFault h = absurd h
+line_unread number old new a b WantMemory h = h
+
+-- a line feed behind too many bytes
+pub line_long : (end : ℕ) (text : List ℕ) → HasLineTo end text → max_line_bytes ≤ end → IsLongLine text
+line_long end text h long =
+    let within = h.within in (
+      take end text,
+      (10 ∷ []) ++ drop (end + 1) text,
+      h.whole ∙ append_assoc (take end text) (10 ∷ []) (drop (end + 1) text),
+      h.without,
+      omega (arith, long, length-take-le end text (omega (arith, within))),
+    )
+
+-- none, where something is left
+pub line_short : (new : List ℕ) (after : Option (List ℕ)) → is_without 10 new ≡ true → (n : ℕ) → n ≡ length new → 1 ≤ n → IsAtEnd after ⊎ (max_line_bytes ≤ length new) → EndsInLine new after
+line_short [] after without n count some why = absurd (omega (arith, count, some))
+line_short (x ∷ xs) after without n count some (inl ended) = inl (without, (λ is. cc), ended)
+line_short (x ∷ xs) after without n count some (inr long) = inr (x ∷ xs, [], sym (append-nil (x ∷ xs)), without, long)
+
+-- and where nothing is
+pub nothing_left : (new : List ℕ) (after : Option (List ℕ)) (n : ℕ) → n ≡ length new → n ≡ 0 → IsAtEnd after ⊎ (max_line_bytes ≤ length new) → (new ≡ []) × IsAtEnd after
+nothing_left new after n count none (inl ended) = (nil_from_length new (sym count ∙ none), ended)
+nothing_left new after n count none (inr long) = absurd (omega (arith, count, none, long))
+
+-- what is searched, as a part of a buffer
+pub searched_part : (items held view : List ℕ) (start searched : ℕ) → held ≡ items → drop start items ≡ view
+    → take (length held - (start + searched)) (drop (start + searched) held) ≡ drop searched view
+searched_part items held view start searched is shown =
+    take_rest held (start + searched) ∙ ap (drop (start + searched)) is ∙ sym (drop-drop searched start items) ∙ ap (drop searched) shown
+
+-- what is kept loses nothing
+pub consumes_none : (a b : Option (List ℕ)) → Keeps a b → Consumes a b []
+consumes_none None b kept = tt
+consumes_none (Some xs) None kept = absurd kept
+consumes_none (Some xs) (Some ys) kept = sym kept
+
+-- what was held is all that stays where nothing is kept of a piece
+pub piece_none : (held old new after : List ℕ) (front k len : ℕ) → take front old ≡ held → front ≤ length old → front + length new ≡ len
+    → take front (take len (put_mid front k old new ++ after)) ≡ held
+piece_none held old new after front k len is there long =
+    let sum : front + 0 ≡ front = omega arith in
+    subst (λ n. take n (take len (put_mid front k old new ++ after)) ≡ held) sum (piece_behind held old new after front k len 0 is there (omega arith) long ∙ append-nil held)
