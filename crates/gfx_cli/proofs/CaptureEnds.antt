@@ -63,7 +63,7 @@ bad_ends frames before after WantMemory line kind bytes rest fault is reads writ
 -- of a run that is so, so it is in other words
 run_weaker : (P Q : ℕ → List (List Part) → List Entry → Type 0) (bytes rest : List ℕ) → ((m : ℕ) (phases : List (List Part)) (log : List Entry) → P m phases log → Q m phases log)
     → IsRun P bytes rest → IsRun Q bytes rest
-run_weaker P Q bytes rest weaker is = record { read = is.read; minor = is.minor; phases = is.phases; parses = is.parses; log = is.log; so = weaker is.minor is.phases is.log is.so }
+run_weaker P Q bytes rest weaker is = record { read = is.read; minor = is.minor; phases = is.phases; parses = is.parses; log = is.log; means = is.means; so = weaker is.minor is.phases is.log is.so }
 
 lack_front : (frames : Option FrameRange) (before after : Option (List ℕ)) (first last m : ℕ) (phases : List (List Part)) (log : List Entry)
     → IsWhole m phases log × Lacks frames before after first last (log_file m log) → TookFront frames before after m phases log

@@ -7,7 +7,9 @@ use Rattle.gfx_recording.specs.declared.fault.RecordingFault.TheVariants.{BadScr
 use Rattle.gfx_words.specs.declared.range.FrameRange.{FrameRange}
 use Rattle.gfx_cli.specs.declared.status.Status.{Status}
 use Rattle.gfx_cli.specs.declared.status.Status.TheVariants as status
-use Rattle.gfx_cli.specs.Captures.{IsUnstopped, IsUnstoppedAt, line_of, status_of}
+use Rattle.gfx_recording.specs.Records.{IsUnstopped}
+use Rattle.gfx_cli.specs.Captures.{IsUnstoppedAt, line_of, status_of}
+use Rattle.gfx_cli.specs.Commands.{asked_by}
 use Rattle.gfx_cli.specs.CaptureRun.{IsOfCaptures}
 use Rattle.gfx_cli.proofs.Telling.{IsToldBy, status_tells, told_or_wanting}
 
@@ -23,6 +25,7 @@ Told P status.WriteFault = P SinkFault
 Told P status.BadScript = (line : ℕ) × (kind : ScriptKind) × P (BadScript line kind)
 Told P status.CallRefused = (line : ℕ) × (fault : Fault) × (at : ℕ) × P (CallRefused line fault at)
 Told P status.LogFull = (long : ℕ) × (wanted : ℕ) × P (LogFull long wanted)
+Told P status.BadListing = ⊥
 
 told : (P : RecordingFault → Type 0) (why : RecordingFault) → P why → Told P (status_of why)
 told P (BadScript line kind) is = (line, kind, is)
@@ -73,7 +76,7 @@ fault_exactly Line why wanted result same failed is silent none (inr same_as) =
     told_or_wanting result (status_of wanted) (Line (line_of wanted)) same failed (subst (λ f. IsToldBy result (status_of f) (Line (line_of f)) same failed) same_as is) none
 
 -- what does not stop a recording of a safe script has such a status
-unstopped : (frames : Option FrameRange) (why : RecordingFault) → IsUnstopped frames (Err why) → IsUnstoppedAt frames (status_of why)
+unstopped : (frames : Option FrameRange) (why : RecordingFault) → IsUnstopped (asked_by frames) (Err why) → IsUnstoppedAt frames (status_of why)
 unstopped frames WantMemory is = tt
 unstopped None (NoSuchFrame first last) is = absurd is
 unstopped (Some r) (NoSuchFrame first last) is = tt
@@ -84,7 +87,7 @@ unstopped frames ReadFault is = absurd is
 unstopped frames SinkFault is = absurd is
 
 pub unstopped_at : (frames : Option FrameRange) (why : RecordingFault) (result : Status) (line same failed : Type 0) → IsToldBy result (status_of why) line same failed → ¬ failed
-    → IsUnstopped frames (Err why) → IsUnstoppedAt frames result
+    → IsUnstopped (asked_by frames) (Err why) → IsUnstoppedAt frames result
 unstopped_at frames why result line same failed is none so =
     elim (told_or_wanting result (status_of why) line same failed is none) [
       | inl wanting ↦ subst (IsUnstoppedAt frames) (sym wanting) tt

@@ -7,11 +7,12 @@ use Rattle.gfx_model.specs.Blocks.{clean, bad}
 use Rattle.gfx_model.specs.Events.{Event}
 use Rattle.gfx_trim.specs.Numbers.{IsInside, IsOutside}
 use Rattle.gfx_player.specs.Meanings.{history_in}
+use Rattle.gfx_listing_law.proofs.Readable.{listing_is_good, one_bad as one_bad_line}
 use Rattle.gfx_words.specs.declared.command.Command.{Command}
-use Rattle.gfx_words.specs.declared.command.Command.TheVariants.{Info, Replay, Trim, Upgrade, Make, Help, Version}
+use Rattle.gfx_words.specs.declared.command.Command.TheVariants.{Info, Replay, Trim, Upgrade, List as Lists, Unlist as Unlists, Make, Help, Version}
 use Rattle.gfx_cli.specs.declared.stop.Stop.{Stop}
-use Rattle.gfx_cli.specs.declared.stop.Stop.TheVariants.{WantMemory, BadFile, NoSuchFrame, ReadFault, WriteFault}
-use Rattle.gfx_cli.specs.Commands.{IsBad, IsGood, LacksFrame}
+use Rattle.gfx_cli.specs.declared.stop.Stop.TheVariants.{WantMemory, BadFile, NoSuchFrame, ReadFault, WriteFault, BadListing}
+use Rattle.gfx_cli.specs.Commands.{IsBad, IsBadLine, IsGood, LacksFrame}
 use Rattle.gfx_cli.specs.Ends.{Stops}
 
 -- what holds of the bytes that are told, and of those that are left
@@ -32,6 +33,8 @@ good_not_bad (Replay pixels None) fault block offset bytes good is = let e : cle
 good_not_bad (Replay pixels (Some r)) fault block offset bytes good is = let e : true ≡ false = sym good ∙ is.1 in absurd cc
 good_not_bad (Trim r) fault block offset bytes good is = in_and_out r.first r.last (history_in bytes) good is.1
 good_not_bad Upgrade fault block offset bytes good is = let e : clean ≡ bad fault block offset = sym good ∙ is in absurd cc
+good_not_bad Lists fault block offset bytes good is = let e : clean ≡ bad fault block offset = sym good ∙ is in absurd cc
+good_not_bad Unlists fault block offset bytes good is = is
 good_not_bad (Make n) fault block offset bytes good is = is
 good_not_bad Help fault block offset bytes good is = is
 good_not_bad Version fault block offset bytes good is = is
@@ -42,6 +45,8 @@ good_not_lacking (Replay pixels None) first last bytes good is = is.range
 good_not_lacking (Replay pixels (Some r)) first last bytes good is = let e : true ≡ false = sym good ∙ is.unseen in absurd cc
 good_not_lacking (Trim r) first last bytes good is = in_and_out r.first r.last (history_in bytes) good is.outside
 good_not_lacking Upgrade first last bytes good is = is
+good_not_lacking Lists first last bytes good is = is
+good_not_lacking Unlists first last bytes good is = is
 good_not_lacking (Make n) first last bytes good is = is
 good_not_lacking Help first last bytes good is = is
 good_not_lacking Version first last bytes good is = is
@@ -51,6 +56,8 @@ bad_not_lacking Info fault block offset first last bytes wrong is = is
 bad_not_lacking (Replay pixels frames) fault block offset first last bytes wrong is = let e : clean ≡ bad fault block offset = sym is.end ∙ wrong.0 in absurd cc
 bad_not_lacking (Trim r) fault block offset first last bytes wrong is = let e : clean ≡ bad fault block offset = sym is.end ∙ wrong.0 in absurd cc
 bad_not_lacking Upgrade fault block offset first last bytes wrong is = is
+bad_not_lacking Lists fault block offset first last bytes wrong is = is
+bad_not_lacking Unlists fault block offset first last bytes wrong is = is
 bad_not_lacking (Make n) fault block offset first last bytes wrong is = is
 bad_not_lacking Help fault block offset first last bytes wrong is = is
 bad_not_lacking Version fault block offset first last bytes wrong is = is
@@ -68,6 +75,8 @@ same_bad Info fault other block number offset place bytes is so = one_bad fault 
 same_bad (Replay pixels frames) fault other block number offset place bytes is so = one_bad fault other block number offset place (sym is.0 ∙ so.0)
 same_bad (Trim r) fault other block number offset place bytes is so = one_bad fault other block number offset place (sym is.0 ∙ so.0)
 same_bad Upgrade fault other block number offset place bytes is so = one_bad fault other block number offset place (sym is ∙ so)
+same_bad Lists fault other block number offset place bytes is so = one_bad fault other block number offset place (sym is ∙ so)
+same_bad Unlists fault other block number offset place bytes is so = absurd is
 same_bad (Make n) fault other block number offset place bytes is so = absurd is
 same_bad Help fault other block number offset place bytes is so = absurd is
 same_bad Version fault other block number offset place bytes is so = absurd is
@@ -80,9 +89,32 @@ same_lack (Replay pixels frames) first last other_first other_last bytes is so =
 same_lack (Trim r) first last other_first other_last bytes is so =
     ap (λ n. NoSuchFrame n last) (is.first_is ∙ sym so.first_is) ∙ ap (NoSuchFrame other_first) (is.last_is ∙ sym so.last_is)
 same_lack Upgrade first last other_first other_last bytes is so = absurd is
+same_lack Lists first last other_first other_last bytes is so = absurd is
+same_lack Unlists first last other_first other_last bytes is so = absurd is
 same_lack (Make n) first last other_first other_last bytes is so = absurd is
 same_lack Help first last other_first other_last bytes is so = absurd is
 same_lack Version first last other_first other_last bytes is so = absurd is
+
+-- a line is bad in no listing, in no capture file, and where no frame is missing
+pub good_not_bad_line : (c : Command) (line : ℕ) (bytes : List ℕ) → IsGood c bytes → IsBadLine c line bytes → ⊥
+good_not_bad_line Unlists line bytes good is = listing_is_good good.0 bytes line good.1 good.2 is
+good_not_bad_line Info line bytes good is = is
+good_not_bad_line _ line bytes good is = is
+
+bad_not_bad_line : (c : Command) (fault : Fault) (block offset line : ℕ) (bytes : List ℕ) → IsBad c fault block offset bytes → IsBadLine c line bytes → ⊥
+bad_not_bad_line Unlists fault block offset line bytes wrong is = wrong
+bad_not_bad_line Info fault block offset line bytes wrong is = is
+bad_not_bad_line _ fault block offset line bytes wrong is = is
+
+lack_not_bad_line : (c : Command) (first last line : ℕ) (bytes : List ℕ) → LacksFrame c first last bytes → IsBadLine c line bytes → ⊥
+lack_not_bad_line Unlists first last line bytes lack is = lack
+lack_not_bad_line Info first last line bytes lack is = is
+lack_not_bad_line _ first last line bytes lack is = is
+
+same_line : (c : Command) (line other : ℕ) (bytes : List ℕ) → IsBadLine c line bytes → IsBadLine c other bytes → BadListing line ≡ BadListing other
+same_line Unlists line other bytes is so = ap BadListing (one_bad_line bytes line other is so)
+same_line Info line other bytes is so = absurd is
+same_line _ line other bytes is so = absurd is
 
 -- a file that has all stops a command for a fault of the source, of the sink, or for want of memory alone
 pub good_stops : (c : Command) (before after : Option (List ℕ)) (stop : Stop) (all rest : List ℕ) → IsGood c all → Stops c before after stop all rest
@@ -92,6 +124,7 @@ good_stops c before after (NoSuchFrame first last) all rest good is reads writes
 good_stops c before after ReadFault all rest good is reads writes = absurd (reads refl)
 good_stops c before after WriteFault all rest good is reads writes = absurd (writes refl)
 good_stops c before after WantMemory all rest good is reads writes = refl
+good_stops c before after (BadListing line) all rest good is reads writes = absurd (good_not_bad_line c line all good is.0)
 
 pub bad_stops : (c : Command) (before after : Option (List ℕ)) (stop : Stop) (fault : Fault) (block offset : ℕ) (all rest : List ℕ) → IsBad c fault block offset all
     → Stops c before after stop all rest → ¬ (stop ≡ ReadFault) → ¬ (stop ≡ WriteFault) → (stop ≡ WantMemory) ⊎ (stop ≡ BadFile fault block offset)
@@ -100,6 +133,7 @@ bad_stops c before after (NoSuchFrame first last) fault block offset all rest wr
 bad_stops c before after ReadFault fault block offset all rest wrong is reads writes = absurd (reads refl)
 bad_stops c before after WriteFault fault block offset all rest wrong is reads writes = absurd (writes refl)
 bad_stops c before after WantMemory fault block offset all rest wrong is reads writes = inl refl
+bad_stops c before after (BadListing line) fault block offset all rest wrong is reads writes = absurd (bad_not_bad_line c fault block offset line all wrong is.0)
 
 pub lack_stops : (c : Command) (before after : Option (List ℕ)) (stop : Stop) (first last : ℕ) (all rest : List ℕ) → LacksFrame c first last all
     → Stops c before after stop all rest → ¬ (stop ≡ ReadFault) → ¬ (stop ≡ WriteFault) → (stop ≡ WantMemory) ⊎ (stop ≡ NoSuchFrame first last)
@@ -108,3 +142,13 @@ lack_stops c before after (NoSuchFrame other_first other_last) first last all re
 lack_stops c before after ReadFault first last all rest lack is reads writes = absurd (reads refl)
 lack_stops c before after WriteFault first last all rest lack is reads writes = absurd (writes refl)
 lack_stops c before after WantMemory first last all rest lack is reads writes = inl refl
+lack_stops c before after (BadListing line) first last all rest lack is reads writes = absurd (lack_not_bad_line c first last line all lack is.0)
+
+pub line_stops : (c : Command) (before after : Option (List ℕ)) (stop : Stop) (line : ℕ) (all rest : List ℕ) → IsBadLine c line all
+    → Stops c before after stop all rest → ¬ (stop ≡ ReadFault) → ¬ (stop ≡ WriteFault) → (stop ≡ WantMemory) ⊎ (stop ≡ BadListing line)
+line_stops c before after (BadFile fault block offset) line all rest wrong is reads writes = absurd (bad_not_bad_line c fault block offset line all is.0 wrong)
+line_stops c before after (NoSuchFrame first last) line all rest wrong is reads writes = absurd (lack_not_bad_line c first last line all is.0 wrong)
+line_stops c before after (BadListing other) line all rest wrong is reads writes = inr (same_line c other line all is.0 wrong)
+line_stops c before after ReadFault line all rest wrong is reads writes = absurd (reads refl)
+line_stops c before after WriteFault line all rest wrong is reads writes = absurd (writes refl)
+line_stops c before after WantMemory line all rest wrong is reads writes = inl refl

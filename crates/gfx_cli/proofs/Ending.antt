@@ -1,18 +1,18 @@
 -- How a command ends, by what was read and written.
-use Rattle.std.proofs.Common.{◌≡◌, ℕ, List, [], Option, Some, None, Result, Ok, Err, Bool, refl, sym, ap, subst, ◌∙◌}
+use Rattle.std.proofs.Common.{◌≡◌, inl, inr, ℕ, List, [], ◌++◌, flat_map, append_assoc, Option, Some, None, Result, Ok, Err, Bool, refl, sym, ap, subst, ◌∙◌}
 use Rattle.std.specs.Prelude.{OnOk, IfErr}
 use Rattle.gfx_io.specs.Told.{IfTold}
 use Rattle.std.specs.Io.KnownBytes.{Appends}
 use Rattle.gfx_io.specs.Pieces.{AppendsPart}
 use Rattle.gfx_model.specs.Blocks.{minor_of}
-use Rattle.gfx_model.specs.Text.{count_lines, counts_text}
+use Rattle.gfx_model.specs.Text.{count_lines, counts_text, line}
 use Rattle.gfx_grammar.specs.Splitting.{blocks_of}
 use Rattle.gfx_io.proofs.Appending.{appends_none, nothing_written, part_of, whole_part}
 use Rattle.gfx_decode.specs.declared.fault.DecodeFault.{DecodeFault}
 use Rattle.gfx_decode.specs.declared.fault.DecodeFault.TheVariants as decoder
 use Rattle.gfx_words.specs.declared.range.FrameRange.{FrameRange}
 use Rattle.gfx_words.specs.declared.command.Command.{Command}
-use Rattle.gfx_words.specs.declared.command.Command.TheVariants.{Info, Replay, Trim, Upgrade, Make, Help, Version}
+use Rattle.gfx_words.specs.declared.command.Command.TheVariants.{Info, Replay, Trim, Upgrade, List as Lists, Unlist as Unlists, Make, Help, Version}
 use Rattle.gfx_player.specs.declared.fault.PlayFault.{PlayFault}
 use Rattle.gfx_player.specs.declared.fault.PlayFault.TheVariants as play
 use Rattle.gfx_player.specs.Fed.{IsUnfinished}
@@ -22,13 +22,20 @@ use Rattle.gfx_trim.specs.Trims as trim
 use Rattle.gfx_trim.specs.Written.{written}
 use Rattle.gfx_upgrade.specs.Upgrades as upgrade
 use Rattle.gfx_upgrade.specs.Upgrades.{upgraded}
+use Rattle.gfx_list.specs.Lists as list
+use Rattle.gfx_list.specs.Lists.{listed}
+use Rattle.gfx_list.specs.Unlists as unlist
+use Rattle.gfx_list.specs.declared.fault.UnlistFault.{UnlistFault}
+use Rattle.gfx_list.specs.declared.fault.UnlistFault.TheVariants as fault
+use Rattle.gfx_listing_law.specs.Fronts.{BeginsWith, bytes_in, unlisted}
+use Rattle.gfx_listing_law.proofs.Readable.{all_of, fronts, listings_unlisted, stops_of}
 use Rattle.gfx_cli.specs.declared.counts.Counts.{Counts}
 use Rattle.gfx_cli.specs.declared.stop.Stop.{Stop}
-use Rattle.gfx_cli.specs.declared.stop.Stop.TheVariants.{WantMemory, BadFile, NoSuchFrame, ReadFault, WriteFault}
+use Rattle.gfx_cli.specs.declared.stop.Stop.TheVariants.{WantMemory, BadFile, NoSuchFrame, ReadFault, WriteFault, BadListing}
 use Rattle.gfx_cli.specs.Commands.{IsGood, Leaves, asked_by, text_by, text_before}
 use Rattle.gfx_cli.specs.Counts.{CountsAll}
-use Rattle.gfx_cli.specs.Ends.{Ends, IsDone, Stops}
-use Rattle.gfx_cli.specs.Stop.{of_decoder, of_play, IsUnwritten, MissesNone}
+use Rattle.gfx_cli.specs.Ends.{Ends, IsCutOff, IsDone, Stops}
+use Rattle.gfx_cli.specs.Stop.{of_decoder, of_play, of_unlist, IsUnwritten, MayStop}
 use Rattle.gfx_cli.specs.Text.{at_clean, info_text}
 
 -- ---- `info`
@@ -48,11 +55,11 @@ info_fails taken decoder.ReadFault all rest (fed, is) =
     }
 info_fails taken decoder.WantMemory all rest end = nothing_written taken (info_text all)
 
--- and no frame is asked for
-pub info_misses_none : (why : DecodeFault) → MissesNone (of_decoder why)
-info_misses_none (decoder.Bad fault block offset) = tt
-info_misses_none decoder.ReadFault = tt
-info_misses_none decoder.WantMemory = tt
+-- which it may do
+pub info_may : (why : DecodeFault) → MayStop Info (of_decoder why)
+info_may (decoder.Bad fault block offset) = tt
+info_may decoder.ReadFault = tt
+info_may decoder.WantMemory = tt
 
 -- the lines that were written are those of the file's counts
 counted_text : (counts : Counts) (all rest : List ℕ) → CountsAll (Ok counts) all rest → count_lines counts.minor counts.blocks counts.calls counts.frames ≡ info_text all
@@ -82,6 +89,13 @@ pub replay_done : (pixels : Bool) (frames : Option FrameRange) (before after : O
     → Answers (asked_by frames) pixels before after (Ok tt) all rest → IsDone (Replay pixels frames) before after all rest
 replay_done pixels frames before after all rest is = record { good = is.0.complete; leaves = is.1; text = is.0.text }
 
+pub replay_may : (why : PlayFault) (pixels : Bool) (frames : Option FrameRange) → MayStop (Replay pixels frames) (of_play why)
+replay_may (play.Bad fault block offset) pixels frames = tt
+replay_may (play.NoSuchFrame first last) pixels frames = tt
+replay_may play.ReadFault pixels frames = tt
+replay_may play.SinkFault pixels frames = tt
+replay_may play.WantMemory pixels frames = tt
+
 -- ---- `trim`
 
 pub trim_fails : (why : PlayFault) (r : FrameRange) (before after : Option (List ℕ)) (all rest : List ℕ)
@@ -107,13 +121,69 @@ upgrade_fails play.WantMemory before after all rest is = is
 pub upgrade_done : (before after : Option (List ℕ)) (all rest : List ℕ) → upgrade.Answers before after (Ok tt) all rest → IsDone Upgrade before after all rest
 upgrade_done before after all rest is = record { good = is.clean_end; leaves = is.read; text = is.file }
 
--- and no frame is asked for
-pub upgrade_misses_none : (why : PlayFault) → upgrade.AsksForNone why → MissesNone (of_play why)
-upgrade_misses_none (play.Bad fault block offset) asks = tt
-upgrade_misses_none (play.NoSuchFrame first last) asks = absurd asks
-upgrade_misses_none play.ReadFault asks = tt
-upgrade_misses_none play.SinkFault asks = tt
-upgrade_misses_none play.WantMemory asks = tt
+pub upgrade_may : (why : PlayFault) → upgrade.AsksForNone why → MayStop Upgrade (of_play why)
+upgrade_may (play.Bad fault block offset) asks = tt
+upgrade_may (play.NoSuchFrame first last) asks = absurd asks
+upgrade_may play.ReadFault asks = tt
+upgrade_may play.SinkFault asks = tt
+upgrade_may play.WantMemory asks = tt
+
+-- ---- `list`
+
+pub list_fails : (why : PlayFault) (before after : Option (List ℕ)) (all rest : List ℕ) → list.Answers before after (Err why) all rest → Stops Lists before after (of_play why) all rest
+list_fails (play.Bad fault block offset) before after all rest is = (is.end, is.text)
+list_fails (play.NoSuchFrame first last) before after all rest is = absurd is
+list_fails play.ReadFault before after all rest is = record { reads = tt; read = is.given; parts = is.parts; going = is.cut; text = is.text; front = is.front }
+list_fails play.SinkFault before after all rest is = is
+list_fails play.WantMemory before after all rest is = is
+
+pub list_done : (before after : Option (List ℕ)) (all rest : List ℕ) → list.Answers before after (Ok tt) all rest → IsDone Lists before after all rest
+list_done before after all rest is = record { good = is.clean_end; leaves = is.read; text = is.text }
+
+pub list_may : (why : PlayFault) → upgrade.AsksForNone why → MayStop Lists (of_play why)
+list_may (play.Bad fault block offset) asks = tt
+list_may (play.NoSuchFrame first last) asks = absurd asks
+list_may play.ReadFault asks = tt
+list_may play.SinkFault asks = tt
+list_may play.WantMemory asks = tt
+
+-- ---- `unlist`
+
+-- a front of what first lines list is a front of what the text lists
+unlist_part : (before after : Option (List ℕ)) (lines : List (List ℕ)) (rest text : List ℕ) → BeginsWith lines rest text → AppendsPart before after (bytes_in lines) → AppendsPart before after (unlisted text)
+unlist_part before after lines rest text begins part =
+    let front = fronts lines rest text begins in
+    subst (AppendsPart before after) (sym front.1) (part_of before after (bytes_in lines) front.0 part)
+
+unlist_cut : (before after : Option (List ℕ)) (all rest : List ℕ) → unlist.IsUnread (Appends before after) all rest → IsCutOff Unlists before after all rest
+unlist_cut before after all rest is =
+    let whole : all ≡ flat_map line is.lines ++ (is.rest ++ rest) = is.parts ∙ ap (λ (z : List ℕ). z ++ rest) is.begins.parts ∙ append_assoc (flat_map line is.lines) is.rest rest in
+    record {
+      reads = tt;
+      read = is.given;
+      parts = is.parts;
+      going = (is.lines, is.rest, is.begins, is.cut);
+      text = subst (Appends before after) (sym (all_of is.lines is.rest is.given is.begins (inr (inl is.cut)))) is.file;
+      front = unlist_part before after is.lines (is.rest ++ rest) all (record { parts = whole; are_read = is.begins.are_read }) (whole_part before after (bytes_in is.lines) is.file);
+    }
+
+pub unlist_fails : (why : UnlistFault) (before after : Option (List ℕ)) (all rest : List ℕ) → unlist.Unlists before after (Err why) all rest → Stops Unlists before after (of_unlist why) all rest
+unlist_fails (fault.BadListing number) before after all rest is =
+    let bad = is.bad in
+    (bad, subst (Appends before after) (sym (all_of bad.lines bad.rest all bad.begins (stops_of bad.lines bad.rest bad.stops))) is.file)
+unlist_fails fault.ReadFault before after all rest is = unlist_cut before after all rest is
+unlist_fails fault.SinkFault before after all rest is = unlist_part before after is.lines is.rest all is.begins is.part
+unlist_fails fault.WantMemory before after all rest is = unlist_part before after is.lines is.rest all is.begins is.part
+
+pub unlist_done : (before after : Option (List ℕ)) (all rest : List ℕ) → unlist.Unlists before after (Ok tt) all rest → IsDone Unlists before after all rest
+unlist_done before after all rest is =
+    record { good = (is.bytes, is.are_bytes, is.listing); leaves = is.read; text = subst (Appends before after) (sym (listings_unlisted is.bytes all is.are_bytes is.listing)) is.file }
+
+pub unlist_may : (why : UnlistFault) → MayStop Unlists (of_unlist why)
+unlist_may (fault.BadListing number) = refl
+unlist_may fault.ReadFault = tt
+unlist_may fault.SinkFault = tt
+unlist_may fault.WantMemory = tt
 
 -- ---- a text that needs no file
 
@@ -125,6 +195,17 @@ text_ends c before after (Err (NoSuchFrame first last)) text bytes good leaves i
 text_ends c before after (Err ReadFault) text bytes good leaves is whole part why = absurd why
 text_ends c before after (Err WriteFault) text bytes good leaves is whole part why = subst (AppendsPart before after) is part
 text_ends c before after (Err WantMemory) text bytes good leaves is whole part why = subst (AppendsPart before after) is part
+text_ends c before after (Err (BadListing line)) text bytes good leaves is whole part why = absurd why
+
+-- it may stop so
+pub text_may : (c : Command) (r : Result Unit Stop) → IfErr r IsUnwritten → IfErr r (MayStop c)
+text_may c (Ok done) why = tt
+text_may c (Err (BadFile fault block offset)) why = absurd why
+text_may c (Err (NoSuchFrame first last)) why = absurd why
+text_may c (Err ReadFault) why = absurd why
+text_may c (Err WriteFault) why = tt
+text_may c (Err WantMemory) why = tt
+text_may c (Err (BadListing line)) why = absurd why
 
 pub told_same : (a : Option (List ℕ)) (P : List ℕ → List ℕ → Type 0) → ((x : List ℕ) → P x x) → IfTold a a P
 told_same None P each = tt
@@ -141,6 +222,8 @@ text_first Info before after bytes text = part_of before after [] (info_text byt
 text_first (Replay pixels frames) before after bytes text = lines_first pixels frames before after bytes text
 text_first (Trim r) before after bytes text = whole_part before after (written r.first r.last bytes) text
 text_first Upgrade before after bytes text = whole_part before after (upgraded bytes) text
+text_first Lists before after bytes text = whole_part before after (listed bytes) text
+text_first Unlists before after bytes text = whole_part before after (unlisted bytes) text
 text_first (Make n) before after bytes text = part_of before after [] (text_by (Make n) bytes) (whole_part before after [] text)
 text_first Help before after bytes text = part_of before after [] (text_by Help bytes) (whole_part before after [] text)
 text_first Version before after bytes text = part_of before after [] (text_by Version bytes) (whole_part before after [] text)
@@ -152,3 +235,4 @@ front_of c before after (Err (NoSuchFrame first last)) all rest is = text_first 
 front_of c before after (Err ReadFault) all rest is = is.front
 front_of c before after (Err WriteFault) all rest is = is
 front_of c before after (Err WantMemory) all rest is = is
+front_of c before after (Err (BadListing line)) all rest is = text_first c before after all is.1

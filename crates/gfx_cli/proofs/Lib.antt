@@ -7,3 +7,4 @@ pub mod Recorded
 pub mod CaptureEnds
 pub mod CaptureTelling
 pub mod Choosing
+pub mod Promising

@@ -11,15 +11,14 @@ use Rattle.gfx_log_law.specs.Logs.{log_file}
 use Rattle.gfx_recorder.specs.Outcomes.{IsOutcome, IsRefusedAt, IsFullAt}
 use Rattle.gfx_recorder.specs.declared.outcome.Outcome.{Outcome}
 use Rattle.gfx_recorder.specs.declared.outcome.Outcome.TheVariants as ran
-use Rattle.gfx_recording.specs.Records as recording
-use Rattle.gfx_recording.specs.Records.{IsBadScript, IsRecorded, Records, Writes}
-use Rattle.gfx_recording.specs.Writing.{IsOrdered, TookThen, WritesAsked}
+use Rattle.gfx_recording.specs.Records.{IsBadScript, IsRecorded, LeftMeans, Records, Writes}
+use Rattle.gfx_recording.specs.Writing.{IsOrdered, MeansHistory, TookThen, WritesAsked}
 use Rattle.gfx_recording.specs.declared.fault.RecordingFault.{RecordingFault}
 use Rattle.gfx_recording.specs.declared.fault.RecordingFault.TheVariants.{BadScript, CallRefused, LogFull, NoSuchFrame, ReadFault, SinkFault, WantMemory}
 use Rattle.gfx_trim.specs.Trims.{IsWithout}
 use Rattle.gfx_words.specs.declared.range.FrameRange.{FrameRange}
 use Rattle.gfx_words.specs.Commands.{FitsFrames}
-use Rattle.gfx_cli.specs.Captures.{Ends, IsRun, IsUnstopped, IsWhole, Lacks, Took, TookFront, written_of}
+use Rattle.gfx_cli.specs.Captures.{Ends, IsRun, IsWhole, Lacks, Took, TookFront, written_of}
 use Rattle.gfx_cli.specs.Commands.{asked_by}
 
 pub ordered : (frames : Option FrameRange) → FitsFrames frames → IsOrdered (asked_by frames)
@@ -88,97 +87,85 @@ no_other why fault before after file other sink (inr (same, part)) = sink same
 
 -- ---- by what the run left
 
-whole_by : (frames : Option FrameRange) (before after : Option (List ℕ)) (m : ℕ) (phases : List (List Part)) (outcome : Outcome) → IsOutcome m phases outcome
-    → Writes (asked_by frames) before after outcome (Ok tt) → (log : List Entry) × (IsWhole m phases log × Took frames before after (log_file m log))
-whole_by frames before after m phases (ran.Done log) is wrote =
-    (log.entries, (record { matches = is.1; valid = is.2 }, in_version (Took frames before after) m log is.0 (took_by frames before after log wrote)))
-whole_by frames before after m phases (ran.Refused line fault at log) is wrote = absurd wrote
-whole_by frames before after m phases (ran.LogFull long wanted log) is wrote = absurd wrote
-whole_by frames before after m phases ran.WantMemory is wrote = absurd (let e : Ok tt ≡ Err WantMemory = wrote.0 in cc)
+-- its log means its history in the version of the script
+meant : (m : ℕ) (log : Logged) → log.minor ≡ m → MeansHistory log.minor log.entries → MeansHistory m log.entries
+meant m log same means = subst (λ k. MeansHistory k log.entries) same means
 
-lack_by : (frames : Option FrameRange) (before after : Option (List ℕ)) (first last m : ℕ) (phases : List (List Part)) (outcome : Outcome) → IsOutcome m phases outcome
-    → Writes (asked_by frames) before after outcome (Err (NoSuchFrame first last)) → (log : List Entry) × (IsWhole m phases log × Lacks frames before after first last (log_file m log))
-lack_by frames before after first last m phases (ran.Done log) is wrote =
-    (log.entries, (record { matches = is.1; valid = is.2 }, in_version (Lacks frames before after first last) m log is.0 (lacks_by frames before after first last log wrote)))
-lack_by frames before after first last m phases (ran.Refused line fault at log) is wrote = absurd (no_other _ _ before after _ (λ e. absurd cc) (λ e. absurd cc) wrote)
-lack_by frames before after first last m phases (ran.LogFull long wanted log) is wrote = absurd (no_other _ _ before after _ (λ e. absurd cc) (λ e. absurd cc) wrote)
-lack_by frames before after first last m phases ran.WantMemory is wrote = absurd (let e = wrote.0 in cc)
+whole_by : (frames : Option FrameRange) (before after : Option (List ℕ)) (m : ℕ) (phases : List (List Part)) (outcome : Outcome) → IsOutcome m phases outcome → LeftMeans outcome
+    → Writes (asked_by frames) before after outcome (Ok tt) → (log : List Entry) × MeansHistory m log × (IsWhole m phases log × Took frames before after (log_file m log))
+whole_by frames before after m phases (ran.Done log) is means wrote =
+    (log.entries, meant m log is.0 means, (record { matches = is.1; valid = is.2 }, in_version (Took frames before after) m log is.0 (took_by frames before after log wrote)))
+whole_by frames before after m phases (ran.Refused line fault at log) is means wrote = absurd wrote
+whole_by frames before after m phases (ran.LogFull long wanted log) is means wrote = absurd wrote
+whole_by frames before after m phases ran.WantMemory is means wrote = absurd (let e : Ok tt ≡ Err WantMemory = wrote.0 in cc)
 
-call_by : (frames : Option FrameRange) (before after : Option (List ℕ)) (line : ℕ) (fault : Fault) (at m : ℕ) (phases : List (List Part)) (outcome : Outcome) → IsOutcome m phases outcome
-    → Writes (asked_by frames) before after outcome (Err (CallRefused line fault at)) → (log : List Entry) × (IsRefusedAt m phases log line fault at × Appends before after (log_file m log))
-call_by frames before after line fault at m phases (ran.Done log) is wrote = absurd (no_call frames before after log line fault at wrote)
-call_by frames before after line fault at m phases (ran.Refused number why place log) is wrote =
+lack_by : (frames : Option FrameRange) (before after : Option (List ℕ)) (first last m : ℕ) (phases : List (List Part)) (outcome : Outcome) → IsOutcome m phases outcome → LeftMeans outcome
+    → Writes (asked_by frames) before after outcome (Err (NoSuchFrame first last)) → (log : List Entry) × MeansHistory m log × (IsWhole m phases log × Lacks frames before after first last (log_file m log))
+lack_by frames before after first last m phases (ran.Done log) is means wrote =
+    (log.entries, meant m log is.0 means, (record { matches = is.1; valid = is.2 }, in_version (Lacks frames before after first last) m log is.0 (lacks_by frames before after first last log wrote)))
+lack_by frames before after first last m phases (ran.Refused line fault at log) is means wrote = absurd (no_other _ _ before after _ (λ e. absurd cc) (λ e. absurd cc) wrote)
+lack_by frames before after first last m phases (ran.LogFull long wanted log) is means wrote = absurd (no_other _ _ before after _ (λ e. absurd cc) (λ e. absurd cc) wrote)
+lack_by frames before after first last m phases ran.WantMemory is means wrote = absurd (let e = wrote.0 in cc)
+
+call_by : (frames : Option FrameRange) (before after : Option (List ℕ)) (line : ℕ) (fault : Fault) (at m : ℕ) (phases : List (List Part)) (outcome : Outcome) → IsOutcome m phases outcome → LeftMeans outcome
+    → Writes (asked_by frames) before after outcome (Err (CallRefused line fault at)) → (log : List Entry) × MeansHistory m log × (IsRefusedAt m phases log line fault at × Appends before after (log_file m log))
+call_by frames before after line fault at m phases (ran.Done log) is means wrote = absurd (no_call frames before after log line fault at wrote)
+call_by frames before after line fault at m phases (ran.Refused number why place log) is means wrote =
     let by = halted_by (CallRefused number why place) (CallRefused line fault at) m phases log.entries before after _ (λ e. absurd cc) is.1 wrote in
-    (log.entries, (by.0, in_version (Appends before after) m log is.0 by.1))
-call_by frames before after line fault at m phases (ran.LogFull long wanted log) is wrote = absurd (no_other _ _ before after _ (λ e. absurd cc) (λ e. absurd cc) wrote)
-call_by frames before after line fault at m phases ran.WantMemory is wrote = absurd (let e = wrote.0 in cc)
+    (log.entries, meant m log is.0 means, (by.0, in_version (Appends before after) m log is.0 by.1))
+call_by frames before after line fault at m phases (ran.LogFull long wanted log) is means wrote = absurd (no_other _ _ before after _ (λ e. absurd cc) (λ e. absurd cc) wrote)
+call_by frames before after line fault at m phases ran.WantMemory is means wrote = absurd (let e = wrote.0 in cc)
 
-full_by : (frames : Option FrameRange) (before after : Option (List ℕ)) (long wanted m : ℕ) (phases : List (List Part)) (outcome : Outcome) → IsOutcome m phases outcome
-    → Writes (asked_by frames) before after outcome (Err (LogFull long wanted)) → (log : List Entry) × (IsFullAt m phases log long wanted × Appends before after (log_file m log))
-full_by frames before after long wanted m phases (ran.Done log) is wrote = absurd (no_full frames before after log long wanted wrote)
-full_by frames before after long wanted m phases (ran.Refused line fault at log) is wrote = absurd (no_other _ _ before after _ (λ e. absurd cc) (λ e. absurd cc) wrote)
-full_by frames before after long wanted m phases (ran.LogFull length most log) is wrote =
+full_by : (frames : Option FrameRange) (before after : Option (List ℕ)) (long wanted m : ℕ) (phases : List (List Part)) (outcome : Outcome) → IsOutcome m phases outcome → LeftMeans outcome
+    → Writes (asked_by frames) before after outcome (Err (LogFull long wanted)) → (log : List Entry) × MeansHistory m log × (IsFullAt m phases log long wanted × Appends before after (log_file m log))
+full_by frames before after long wanted m phases (ran.Done log) is means wrote = absurd (no_full frames before after log long wanted wrote)
+full_by frames before after long wanted m phases (ran.Refused line fault at log) is means wrote = absurd (no_other _ _ before after _ (λ e. absurd cc) (λ e. absurd cc) wrote)
+full_by frames before after long wanted m phases (ran.LogFull length most log) is means wrote =
     let by = halted_by (LogFull length most) (LogFull long wanted) m phases log.entries before after _ (λ e. absurd cc) is.1 wrote in
-    (log.entries, (by.0, in_version (Appends before after) m log is.0 by.1))
-full_by frames before after long wanted m phases ran.WantMemory is wrote = absurd (let e = wrote.0 in cc)
+    (log.entries, meant m log is.0 means, (by.0, in_version (Appends before after) m log is.0 by.1))
+full_by frames before after long wanted m phases ran.WantMemory is means wrote = absurd (let e = wrote.0 in cc)
 
-sink_by : (frames : Option FrameRange) (before after : Option (List ℕ)) (m : ℕ) (phases : List (List Part)) (outcome : Outcome) → IsOutcome m phases outcome
-    → Writes (asked_by frames) before after outcome (Err SinkFault) → (log : List Entry) × TookFront frames before after m phases log
-sink_by frames before after m phases (ran.Done log) is wrote =
-    (log.entries, inl (record { matches = is.1; valid = is.2 }, in_version (λ file. AppendsPart before after (written_of frames file)) m log is.0 (part_by frames before after log wrote)))
-sink_by frames before after m phases (ran.Refused line fault at log) is wrote =
-    (log.entries, inr (is.1.halted, in_version (AppendsPart before after) m log is.0 (front_by _ before after _ (λ e. absurd cc) wrote)))
-sink_by frames before after m phases (ran.LogFull long wanted log) is wrote =
-    (log.entries, inr (is.1.halted, in_version (AppendsPart before after) m log is.0 (front_by _ before after _ (λ e. absurd cc) wrote)))
-sink_by frames before after m phases ran.WantMemory is wrote = absurd (let e = wrote.0 in cc)
+sink_by : (frames : Option FrameRange) (before after : Option (List ℕ)) (m : ℕ) (phases : List (List Part)) (outcome : Outcome) → IsOutcome m phases outcome → LeftMeans outcome
+    → Writes (asked_by frames) before after outcome (Err SinkFault) → (log : List Entry) × MeansHistory m log × TookFront frames before after m phases log
+sink_by frames before after m phases (ran.Done log) is means wrote =
+    (log.entries, meant m log is.0 means, inl (record { matches = is.1; valid = is.2 }, in_version (λ file. AppendsPart before after (written_of frames file)) m log is.0 (part_by frames before after log wrote)))
+sink_by frames before after m phases (ran.Refused line fault at log) is means wrote =
+    (log.entries, meant m log is.0 means, inr (is.1.halted, in_version (AppendsPart before after) m log is.0 (front_by _ before after _ (λ e. absurd cc) wrote)))
+sink_by frames before after m phases (ran.LogFull long wanted log) is means wrote =
+    (log.entries, meant m log is.0 means, inr (is.1.halted, in_version (AppendsPart before after) m log is.0 (front_by _ before after _ (λ e. absurd cc) wrote)))
+sink_by frames before after m phases ran.WantMemory is means wrote = absurd (let e = wrote.0 in cc)
 
-memory_by : (frames : Option FrameRange) (before after : Option (List ℕ)) (m : ℕ) (phases : List (List Part)) (outcome : Outcome) → IsOutcome m phases outcome
-    → Writes (asked_by frames) before after outcome (Err WantMemory) → (after ≡ before) ⊎ ((log : List Entry) × TookFront frames before after m phases log)
-memory_by frames before after m phases (ran.Done log) is wrote =
-    inr (log.entries, inl (record { matches = is.1; valid = is.2 }, in_version (λ file. AppendsPart before after (written_of frames file)) m log is.0 (want_by frames before after log wrote)))
-memory_by frames before after m phases (ran.Refused line fault at log) is wrote = absurd (no_other _ _ before after _ (λ e. absurd cc) (λ e. absurd cc) wrote)
-memory_by frames before after m phases (ran.LogFull long wanted log) is wrote = absurd (no_other _ _ before after _ (λ e. absurd cc) (λ e. absurd cc) wrote)
-memory_by frames before after m phases ran.WantMemory is wrote = inl wrote.1
+memory_by : (frames : Option FrameRange) (before after : Option (List ℕ)) (m : ℕ) (phases : List (List Part)) (outcome : Outcome) → IsOutcome m phases outcome → LeftMeans outcome
+    → Writes (asked_by frames) before after outcome (Err WantMemory) → (after ≡ before) ⊎ ((log : List Entry) × MeansHistory m log × TookFront frames before after m phases log)
+memory_by frames before after m phases (ran.Done log) is means wrote =
+    inr (log.entries, meant m log is.0 means, inl (record { matches = is.1; valid = is.2 }, in_version (λ file. AppendsPart before after (written_of frames file)) m log is.0 (want_by frames before after log wrote)))
+memory_by frames before after m phases (ran.Refused line fault at log) is means wrote = absurd (no_other _ _ before after _ (λ e. absurd cc) (λ e. absurd cc) wrote)
+memory_by frames before after m phases (ran.LogFull long wanted log) is means wrote = absurd (no_other _ _ before after _ (λ e. absurd cc) (λ e. absurd cc) wrote)
+memory_by frames before after m phases ran.WantMemory is means wrote = inl wrote.1
 
 -- ---- how it ends
 
 -- a script was run, and this is so of what it left
 run_of : (P : ℕ → List (List Part) → List Entry → Type 0) (asked : Asked) (before after : Option (List ℕ)) (end : Result Unit RecordingFault) (bytes rest : List ℕ)
-    → (is : IsRecorded asked before after end bytes rest) → ((log : List Entry) × P is.minor is.phases log) → IsRun P bytes rest
-run_of P asked before after end bytes rest is (log, so) = record { read = is.read; minor = is.minor; phases = is.phases; parses = is.parses; log = log; so = so }
+    → (is : IsRecorded asked before after end bytes rest) → ((log : List Entry) × MeansHistory is.minor log × P is.minor is.phases log) → IsRun P bytes rest
+run_of P asked before after end bytes rest is (log, means, so) = record { read = is.read; minor = is.minor; phases = is.phases; parses = is.parses; log = log; means = means; so = so }
 
 pub ends_of : (frames : Option FrameRange) (before after : Option (List ℕ)) (end : Result Unit RecordingFault) (bytes rest : List ℕ)
     → Records (asked_by frames) before after end bytes rest → Ends frames before after end bytes rest
-ends_of frames before after (Ok done) bytes rest is = run_of _ _ before after (Ok tt) bytes rest is (whole_by frames before after is.minor is.phases is.outcome is.ran is.wrote)
+ends_of frames before after (Ok done) bytes rest is = run_of _ _ before after (Ok tt) bytes rest is (whole_by frames before after is.minor is.phases is.outcome is.ran is.means is.wrote)
 ends_of frames before after (Err (NoSuchFrame first last)) bytes rest is =
-    run_of _ _ before after (Err (NoSuchFrame first last)) bytes rest is (lack_by frames before after first last is.minor is.phases is.outcome is.ran is.wrote)
+    run_of _ _ before after (Err (NoSuchFrame first last)) bytes rest is (lack_by frames before after first last is.minor is.phases is.outcome is.ran is.means is.wrote)
 ends_of frames before after (Err (CallRefused line fault at)) bytes rest is =
-    run_of _ _ before after (Err (CallRefused line fault at)) bytes rest is (call_by frames before after line fault at is.minor is.phases is.outcome is.ran is.wrote)
+    run_of _ _ before after (Err (CallRefused line fault at)) bytes rest is (call_by frames before after line fault at is.minor is.phases is.outcome is.ran is.means is.wrote)
 ends_of frames before after (Err (LogFull long wanted)) bytes rest is =
-    run_of _ _ before after (Err (LogFull long wanted)) bytes rest is (full_by frames before after long wanted is.minor is.phases is.outcome is.ran is.wrote)
+    run_of _ _ before after (Err (LogFull long wanted)) bytes rest is (full_by frames before after long wanted is.minor is.phases is.outcome is.ran is.means is.wrote)
 ends_of frames before after (Err (BadScript line kind)) bytes rest is = is
 ends_of frames before after (Err ReadFault) bytes rest is = tt
 ends_of frames before after (Err SinkFault) bytes rest is =
-    run_of _ _ before after (Err SinkFault) bytes rest is (sink_by frames before after is.minor is.phases is.outcome is.ran is.wrote)
+    run_of _ _ before after (Err SinkFault) bytes rest is (sink_by frames before after is.minor is.phases is.outcome is.ran is.means is.wrote)
 ends_of frames before after (Err WantMemory) bytes rest (inl same) = inl same
 ends_of frames before after (Err WantMemory) bytes rest (inr is) =
-    elim (memory_by frames before after is.minor is.phases is.outcome is.ran is.wrote) [
+    elim (memory_by frames before after is.minor is.phases is.outcome is.ran is.means is.wrote) [
       | inl same ↦ inl same
       | inr left ↦ inr (run_of _ _ before after (Err WantMemory) bytes rest is left)
     ]
-
-pub unstopped_by : (frames : Option FrameRange) (end : Result Unit RecordingFault) → recording.IsUnstopped (asked_by frames) end → IsUnstopped frames end
-unstopped_by frames (Ok done) is = tt
-unstopped_by frames (Err WantMemory) is = tt
-unstopped_by None (Err (NoSuchFrame low high)) is = is
-unstopped_by (Some r) (Err (NoSuchFrame low high)) is = tt
-unstopped_by None (Err (BadScript line kind)) is = is
-unstopped_by (Some r) (Err (BadScript line kind)) is = is
-unstopped_by None (Err (CallRefused line fault at)) is = is
-unstopped_by (Some r) (Err (CallRefused line fault at)) is = is
-unstopped_by None (Err (LogFull long wanted)) is = is
-unstopped_by (Some r) (Err (LogFull long wanted)) is = is
-unstopped_by None (Err ReadFault) is = is
-unstopped_by (Some r) (Err ReadFault) is = is
-unstopped_by None (Err SinkFault) is = is
-unstopped_by (Some r) (Err SinkFault) is = is

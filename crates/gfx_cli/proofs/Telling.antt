@@ -1,14 +1,15 @@
 -- What a status tells of the stop behind it.
 use Rattle.std.proofs.Common.{◌≡◌, ◌≢◌, ◌⊎◌, inl, inr, ℕ, List, refl, sym, subst, ◌∙◌}
 use Rattle.gfx_types.specs.declared.names.Fault.{Fault}
+use Rattle.gfx_words.specs.declared.command.Command.{Command}
 use Rattle.gfx_cli.specs.declared.status.Status.{Status}
 use Rattle.gfx_cli.specs.declared.status.Status.TheVariants as status
 use Rattle.gfx_cli.specs.declared.stop.Stop.{Stop}
-use Rattle.gfx_cli.specs.declared.stop.Stop.TheVariants.{WantMemory, BadFile, NoSuchFrame, ReadFault, WriteFault}
-use Rattle.gfx_cli.specs.Run.{IsOfCommands, IsOfTexts}
-use Rattle.gfx_cli.specs.Stop.{status_of, line_of, IsUnwritten, MissesNone}
+use Rattle.gfx_cli.specs.declared.stop.Stop.TheVariants.{WantMemory, BadFile, NoSuchFrame, ReadFault, WriteFault, BadListing}
+use Rattle.gfx_cli.specs.Run.{IsOfCommands, MayEnd}
+use Rattle.gfx_cli.specs.Stop.{status_of, line_of, IsUnwritten, MayStop}
 use Rattle.gfx_model.specs.Text.{bad_line}
-use Rattle.gfx_cli.specs.Text.{no_such_frame_line, read_fault_line}
+use Rattle.gfx_cli.specs.Text.{bad_listing_line, no_such_frame_line, read_fault_line}
 
 -- a stop was told, or memory was wanting, or the write failed
 abbrev pub IsToldBy : Status → Status → Type 0 → Type 0 → Type 0 → Type 0
@@ -34,6 +35,7 @@ bad_told Run Line (NoSuchFrame first last) is run line = absurd cc
 bad_told Run Line ReadFault is run line = absurd cc
 bad_told Run Line WriteFault is run line = absurd cc
 bad_told Run Line WantMemory is run line = absurd cc
+bad_told Run Line (BadListing number) is run line = absurd cc
 
 pub lack_told : (Run : Stop → Type 0) (Line : List ℕ → Type 0) (stop : Stop) → status_of stop ≡ status.NoSuchFrame → Run stop → Line (line_of stop)
     → (first : ℕ) × (last : ℕ) × Run (NoSuchFrame first last) × Line (no_such_frame_line first last)
@@ -42,6 +44,16 @@ lack_told Run Line (NoSuchFrame first last) is run line = (first, last, run, lin
 lack_told Run Line ReadFault is run line = absurd cc
 lack_told Run Line WriteFault is run line = absurd cc
 lack_told Run Line WantMemory is run line = absurd cc
+lack_told Run Line (BadListing number) is run line = absurd cc
+
+pub listing_told : (Run : Stop → Type 0) (Line : List ℕ → Type 0) (stop : Stop) → status_of stop ≡ status.BadListing → Run stop → Line (line_of stop)
+    → (line : ℕ) × Run (BadListing line) × Line (bad_listing_line line)
+listing_told Run Line (BadFile fault block offset) is run line = absurd cc
+listing_told Run Line (NoSuchFrame first last) is run line = absurd cc
+listing_told Run Line ReadFault is run line = absurd cc
+listing_told Run Line WriteFault is run line = absurd cc
+listing_told Run Line WantMemory is run line = absurd cc
+listing_told Run Line (BadListing number) is run line = (number, run, line)
 
 pub read_told : (Run : Stop → Type 0) (Line : List ℕ → Type 0) (stop : Stop) → status_of stop ≡ status.ReadFault → Run stop → Line (line_of stop)
     → (stop ≡ ReadFault) × Run ReadFault × Line read_fault_line
@@ -50,6 +62,7 @@ read_told Run Line (NoSuchFrame first last) is run line = absurd cc
 read_told Run Line ReadFault is run line = (refl, run, line)
 read_told Run Line WriteFault is run line = absurd cc
 read_told Run Line WantMemory is run line = absurd cc
+read_told Run Line (BadListing number) is run line = absurd cc
 
 -- a failed write is one of the command, or of the line
 pub write_told : (stop : Stop) → status_of stop ≡ status.WriteFault → stop ≡ WriteFault
@@ -58,6 +71,7 @@ write_told (NoSuchFrame first last) is = absurd cc
 write_told ReadFault is = absurd cc
 write_told WriteFault is = refl
 write_told WantMemory is = absurd cc
+write_told (BadListing line) is = absurd cc
 
 -- neither done nor a faulty command line
 pub stop_status : (stop : Stop) → (status_of stop ≢ status.Done) × (status_of stop ≢ status.Usage)
@@ -66,6 +80,7 @@ stop_status (NoSuchFrame first last) = (λ e. absurd cc, λ e. absurd cc)
 stop_status ReadFault = (λ e. absurd cc, λ e. absurd cc)
 stop_status WriteFault = (λ e. absurd cc, λ e. absurd cc)
 stop_status WantMemory = (λ e. absurd cc, λ e. absurd cc)
+stop_status (BadListing line) = (λ e. absurd cc, λ e. absurd cc)
 
 pub stop_is_built : (stop : Stop) (result : Status) (line same failed : Type 0) → IsToldBy result (status_of stop) line same failed → IsOfCommands result
 stop_is_built (BadFile fault block offset) result line same failed (inl is) = rw is.0 tt
@@ -73,6 +88,7 @@ stop_is_built (NoSuchFrame first last) result line same failed (inl is) = rw is.
 stop_is_built ReadFault result line same failed (inl is) = rw is.0 tt
 stop_is_built WriteFault result line same failed (inl is) = rw is.0 tt
 stop_is_built WantMemory result line same failed (inl is) = rw is.0 tt
+stop_is_built (BadListing number) result line same failed (inl is) = rw is.0 tt
 stop_is_built stop result line same failed (inr (inl is)) = rw is.0 tt
 stop_is_built stop result line same failed (inr (inr is)) = rw is.0 tt
 
@@ -89,15 +105,19 @@ told_exactly Line stop wanted result same failed told silent none (inl want) = i
 told_exactly Line stop wanted result same failed told silent none (inr is) =
     told_or_wanting result (status_of wanted) (Line (line_of wanted)) same failed (subst (λ s. IsToldBy result (status_of s) (Line (line_of s)) same failed) is told) none
 
--- what stops a command that reads no file
-pub text_status : (stop : Stop) (result : Status) (line same failed : Type 0) → IsUnwritten stop → IsToldBy result (status_of stop) line same failed → IsOfTexts result
-text_status (BadFile fault block offset) result line same failed why told = absurd why
-text_status (NoSuchFrame first last) result line same failed why told = absurd why
-text_status ReadFault result line same failed why told = absurd why
-text_status WriteFault result line same failed why (inl is) = rw is.0 tt
-text_status WantMemory result line same failed why (inl is) = rw is.0 tt
-text_status stop result line same failed why (inr (inl is)) = rw is.0 tt
-text_status stop result line same failed why (inr (inr is)) = rw is.0 tt
+-- a command ends with the status of what may stop it, or for want of memory, or as a write failed
+may_end : (c : Command) (stop : Stop) → MayStop c stop → MayEnd c (status_of stop)
+may_end c (BadFile fault block offset) may = may
+may_end c (NoSuchFrame first last) may = may
+may_end c ReadFault may = may
+may_end c WriteFault may = tt
+may_end c WantMemory may = tt
+may_end c (BadListing line) may = may
+
+pub ends_so : (c : Command) (stop : Stop) (result : Status) (line same failed : Type 0) → MayStop c stop → IsToldBy result (status_of stop) line same failed → MayEnd c result
+ends_so c stop result line same failed may (inl is) = subst (MayEnd c) (sym is.0) (may_end c stop may)
+ends_so c stop result line same failed may (inr (inl is)) = subst (MayEnd c) (sym is.0) tt
+ends_so c stop result line same failed may (inr (inr is)) = subst (MayEnd c) (sym is.0) tt
 
 -- where no write failed, it is want of memory
 pub text_wants : (stop : Stop) → IsUnwritten stop → ¬ (stop ≡ WriteFault) → stop ≡ WantMemory
@@ -106,11 +126,4 @@ text_wants (NoSuchFrame first last) why none = absurd why
 text_wants ReadFault why none = absurd why
 text_wants WriteFault why none = absurd (none refl)
 text_wants WantMemory why none = refl
-
--- a stop that misses no frame has another status
-pub misses_none : (stop : Stop) → MissesNone stop → status_of stop ≡ status.NoSuchFrame → ⊥
-misses_none (BadFile fault block offset) why is = absurd cc
-misses_none (NoSuchFrame first last) why is = absurd why
-misses_none ReadFault why is = absurd cc
-misses_none WriteFault why is = absurd cc
-misses_none WantMemory why is = absurd cc
+text_wants (BadListing line) why none = absurd why

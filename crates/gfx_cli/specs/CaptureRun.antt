@@ -7,7 +7,7 @@ use Rattle.gfx_words.specs.declared.recording.Recording.{Recording}
 use Rattle.gfx_recording.specs.declared.fault.RecordingFault.{RecordingFault}
 use Rattle.gfx_recording.specs.declared.fault.RecordingFault.TheVariants.{ReadFault as NotRead}
 use Rattle.gfx_cli.specs.declared.status.Status.{Status}
-use Rattle.gfx_cli.specs.declared.status.Status.TheVariants.{Done, WantMemory, Usage, BadFile, NoSuchFrame, ReadFault, WriteFault, BadScript, CallRefused, LogFull}
+use Rattle.gfx_cli.specs.declared.status.Status.TheVariants.{Done, WantMemory, Usage, BadFile, NoSuchFrame, ReadFault, WriteFault, BadScript, CallRefused, LogFull, BadListing}
 use Rattle.gfx_cli.specs.Captures.{Ends, IsRun, TookFront, line_of}
 use Rattle.gfx_cli.specs.Run.{Failures}
 use Rattle.gfx_cli.specs.Text.{usage_line}
@@ -25,6 +25,7 @@ IsOfCaptures WriteFault = ⊤
 IsOfCaptures BadScript = ⊤
 IsOfCaptures CallRefused = ⊤
 IsOfCaptures LogFull = ⊤
+IsOfCaptures BadListing = ⊥
 
 -- the words ask for a recording, and it ended so
 pub record Captures (words : List (List ℕ)) (left_old left_new taken_old taken_new : Option (List ℕ)) (end : Result Unit RecordingFault) : Type 0 where

@@ -13,6 +13,7 @@ use Rattle.gfx_log_law.specs.Logs.{log_file}
 use Rattle.gfx_run_law.specs.Halted.{IsHalted}
 use Rattle.gfx_recorder.specs.Outcomes.{IsRefusedAt, IsFullAt}
 use Rattle.gfx_recording.specs.Records.{IsBadScript}
+use Rattle.gfx_recording.specs.Writing.{MeansHistory}
 use Rattle.gfx_recording.specs.declared.fault.RecordingFault.{RecordingFault}
 use Rattle.gfx_recording.specs.declared.fault.RecordingFault.TheVariants.{BadScript, CallRefused, LogFull, NoSuchFrame, ReadFault, SinkFault, WantMemory}
 use Rattle.gfx_trim.specs.Keeps.{Keeps}
@@ -23,13 +24,14 @@ use Rattle.gfx_cli.specs.declared.status.Status.{Status}
 use Rattle.gfx_cli.specs.declared.status.Status.TheVariants as status
 use Rattle.gfx_cli.specs.Text.{bad_script_line, refused_line, log_full_line, no_such_frame_line, read_fault_line}
 
--- the source was read to its end, its text is a script, and this is so of the script and of a log
+-- the source was read to its end, its text is a script, and this is so of the script and of a log, which as a file ends cleanly and shows the frames of its history
 pub record IsRun (P : ℕ → List (List Part) → List Entry → Type 0) (bytes rest : List ℕ) : Type 0 where
   pub read : rest ≡ []
   pub minor : ℕ
   pub phases : List (List Part)
   pub parses : Parses bytes (parses minor phases)
   pub log : List Entry
+  pub means : MeansHistory minor log
   pub so : P minor phases log
 
 -- every call was accepted: the log has all lines of the script, and is a valid history
@@ -78,14 +80,7 @@ pub record IsFault (line : ℕ) (kind : ScriptKind) (bytes : List ℕ) : Type 0 
   pub few : length bytes ≤ max_script
   pub fails : ParsesAs bytes (fails line (kind_of kind))
 
--- nothing but want of memory stopped the recording, or that a frame isn't there which is asked for
-abbrev pub IsUnstopped : Option FrameRange → Result Unit RecordingFault → Type 0
-IsUnstopped frames (Ok done) = ⊤
-IsUnstopped frames (Err WantMemory) = ⊤
-IsUnstopped (Some r) (Err (NoSuchFrame low high)) = ⊤
-IsUnstopped frames (Err _) = ⊥
-
--- the same, by the status
+-- nothing but want of memory stopped the recording, or that a frame isn't there which is asked for, by the status
 abbrev pub IsUnstoppedAt : Option FrameRange → Status → Type 0
 IsUnstoppedAt frames status.Done = ⊤
 IsUnstoppedAt frames status.WantMemory = ⊤

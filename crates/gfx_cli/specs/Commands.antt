@@ -1,11 +1,11 @@
 -- What each command asks of a file, and what it writes.
-use Rattle.std.specs.Prelude.{◌≡◌, ℕ, false, List, [], Option, Some, None, ⊤}
+use Rattle.std.specs.Prelude.{◌≡◌, ℕ, true, false, List, [], Option, Some, None, ⊤}
 use Rattle.gfx_types.specs.declared.names.Fault.{Fault}
 use Rattle.gfx_model.specs.Blocks.{clean, bad}
 use Rattle.gfx_grammar.specs.Splitting.{blocks_of}
 use Rattle.gfx_words.specs.declared.range.FrameRange.{FrameRange}
 use Rattle.gfx_words.specs.declared.command.Command.{Command}
-use Rattle.gfx_words.specs.declared.command.Command.TheVariants.{Info, Replay, Trim, Upgrade, Make, Help, Version}
+use Rattle.gfx_words.specs.declared.command.Command.TheVariants.{Info, Replay, Trim, Upgrade, List as Lists, Unlist as Unlists, Make, Help, Version}
 use Rattle.gfx_player.specs.declared.asked.Asked.{Asked}
 use Rattle.gfx_player.specs.declared.asked.Asked.TheVariants.{All, Between}
 use Rattle.gfx_player.specs.Asked.{has_last}
@@ -17,6 +17,11 @@ use Rattle.gfx_trim.specs.Trims.{IsBehindLast}
 use Rattle.gfx_trim.specs.Written.{written}
 use Rattle.gfx_trial.specs.Text.{trial_text}
 use Rattle.gfx_upgrade.specs.Upgrades.{upgraded}
+use Rattle.gfx_feature_model.specs.Listing.{IsListing}
+use Rattle.gfx_grammar.specs.Reads.{AreBytes}
+use Rattle.gfx_text_grammar.specs.Splits.{is_without}
+use Rattle.gfx_listing_law.specs.Fronts.{BeginsWith, IsBadAtLine, unlisted}
+use Rattle.gfx_list.specs.Lists.{listed}
 use Rattle.gfx_cli.specs.Text.{info_text, help_text, version_line}
 
 -- the command reads a file
@@ -25,14 +30,35 @@ Reads Info = ⊤
 Reads (Replay pixels frames) = ⊤
 Reads (Trim r) = ⊤
 Reads Upgrade = ⊤
+Reads Lists = ⊤
+Reads Unlists = ⊤
 Reads (Make n) = ⊥
 Reads Help = ⊥
 Reads Version = ⊥
+
+-- the command reads a capture file
+abbrev pub ReadsCapture : Command → Type 0
+ReadsCapture Info = ⊤
+ReadsCapture (Replay pixels frames) = ⊤
+ReadsCapture (Trim r) = ⊤
+ReadsCapture Upgrade = ⊤
+ReadsCapture Lists = ⊤
+ReadsCapture _ = ⊥
+
+-- the command asks for frames
+abbrev pub AsksForFrames : Command → Type 0
+AsksForFrames (Replay pixels frames) = ⊤
+AsksForFrames (Trim r) = ⊤
+AsksForFrames _ = ⊥
 
 -- the frames that the words ask for
 abbrev pub asked_by : Option FrameRange → Asked
 asked_by None = All
 asked_by (Some r) = Between r.first r.last
+
+-- the text is the listing of a file
+abbrev pub IsSomeListing : List ℕ → Type 0
+IsSomeListing text = (bytes : List ℕ) × AreBytes bytes × IsListing bytes text
 
 -- a file has all that the command asks for
 abbrev pub IsGood : Command → List ℕ → Type 0
@@ -40,6 +66,8 @@ IsGood Info bytes = (blocks_of bytes).end ≡ clean
 IsGood (Replay pixels frames) bytes = play.IsComplete (asked_by frames) bytes
 IsGood (Trim r) bytes = trim.IsInside r.first r.last (history_in bytes)
 IsGood Upgrade bytes = (blocks_of bytes).end ≡ clean
+IsGood Lists bytes = (blocks_of bytes).end ≡ clean
+IsGood Unlists text = IsSomeListing text
 IsGood (Make n) bytes = ⊤
 IsGood Help bytes = ⊤
 IsGood Version bytes = ⊤
@@ -50,6 +78,8 @@ IsBad Info fault block offset bytes = (blocks_of bytes).end ≡ bad fault block 
 IsBad (Replay pixels frames) fault block offset bytes = (end_of bytes ≡ bad fault block offset) × (has_last (asked_by frames) (frames_in bytes) ≡ false)
 IsBad (Trim r) fault block offset bytes = (end_of bytes ≡ bad fault block offset) × trim.IsOutside r.first r.last (history_in bytes)
 IsBad Upgrade fault block offset bytes = (blocks_of bytes).end ≡ bad fault block offset
+IsBad Lists fault block offset bytes = (blocks_of bytes).end ≡ bad fault block offset
+IsBad Unlists fault block offset bytes = ⊥
 IsBad (Make n) fault block offset bytes = ⊥
 IsBad Help fault block offset bytes = ⊥
 IsBad Version fault block offset bytes = ⊥
@@ -75,12 +105,19 @@ LacksFrame Info first last bytes = ⊥
 LacksFrame (Replay pixels frames) first last bytes = HasOnly (asked_by frames) first last bytes
 LacksFrame (Trim r) first last bytes = LacksRange r first last bytes
 LacksFrame Upgrade first last bytes = ⊥
+LacksFrame Lists first last bytes = ⊥
+LacksFrame Unlists first last bytes = ⊥
 LacksFrame (Make n) first last bytes = ⊥
 LacksFrame Help first last bytes = ⊥
 LacksFrame Version first last bytes = ⊥
 
+-- the text that the command reads is no listing from this line on
+abbrev pub IsBadLine : Command → ℕ → List ℕ → Type 0
+IsBadLine Unlists line text = IsBadAtLine line text
+IsBadLine _ line text = ⊥
+
 -- nothing in these bytes stops the command: neither a bad block nor the last frame that it asks for, and the next block isn't whole;
--- `info` and `upgrade` stop only at a block that is none of the format
+-- `info`, `upgrade` and `list` stop only at a block that is none of the format, and `unlist` at a line that is none of a listing
 abbrev pub GoesOn : Command → List ℕ → Type 0
 GoesOn Info read = IsUnfinished (blocks_of read).items read
 GoesOn (Replay pixels frames) read =
@@ -88,6 +125,8 @@ GoesOn (Replay pixels frames) read =
 GoesOn (Trim r) read =
     IsUnfinished (blocks_of read).items read × (end_of read ≡ (blocks_of read).end) × trim.IsOutside r.first r.last (history_in read)
 GoesOn Upgrade read = IsUnfinished (blocks_of read).items read
+GoesOn Lists read = IsUnfinished (blocks_of read).items read
+GoesOn Unlists read = (lines : List (List ℕ)) × (rest : List ℕ) × BeginsWith lines rest read × (is_without 10 rest ≡ true)
 GoesOn (Make n) read = ⊥
 GoesOn Help read = ⊥
 GoesOn Version read = ⊥
@@ -98,16 +137,20 @@ text_by Info bytes = info_text bytes
 text_by (Replay pixels frames) bytes = play.text_in (asked_by frames) pixels bytes
 text_by (Trim r) bytes = written r.first r.last bytes
 text_by Upgrade bytes = upgraded bytes
+text_by Lists bytes = listed bytes
+text_by Unlists text = unlisted text
 text_by (Make n) bytes = trial_text n
 text_by Help bytes = help_text
 text_by Version bytes = version_line
 
--- what it writes before a bad block, or before the end of a file without a frame that it asks for
+-- what it writes before a bad block or a bad line, or before the end of a file without a frame that it asks for
 abbrev pub text_before : Command → List ℕ → List ℕ
 text_before Info bytes = []
 text_before (Replay pixels frames) bytes = play.lines_in (asked_by frames) pixels bytes
 text_before (Trim r) bytes = written r.first r.last bytes
 text_before Upgrade bytes = upgraded bytes
+text_before Lists bytes = listed bytes
+text_before Unlists text = unlisted text
 text_before (Make n) bytes = []
 text_before Help bytes = []
 text_before Version bytes = []
@@ -118,6 +161,8 @@ Leaves Info bytes left = left ≡ []
 Leaves (Replay pixels frames) bytes left = play.Leaves (asked_by frames) bytes left
 Leaves (Trim r) bytes left = IsBehindLast r.last bytes left
 Leaves Upgrade bytes left = left ≡ []
+Leaves Lists bytes left = left ≡ []
+Leaves Unlists text left = left ≡ []
 Leaves (Make n) bytes left = left ≡ bytes
 Leaves Help bytes left = left ≡ bytes
 Leaves Version bytes left = left ≡ bytes

@@ -4,8 +4,8 @@ use Rattle.std.specs.Io.KnownBytes.{Appends}
 use Rattle.gfx_io.specs.Pieces.{AppendsPart}
 use Rattle.gfx_words.specs.declared.command.Command.{Command}
 use Rattle.gfx_cli.specs.declared.stop.Stop.{Stop}
-use Rattle.gfx_cli.specs.declared.stop.Stop.TheVariants.{WantMemory, BadFile, NoSuchFrame, ReadFault, WriteFault}
-use Rattle.gfx_cli.specs.Commands.{GoesOn, IsGood, IsBad, LacksFrame, Leaves, Reads, text_by, text_before}
+use Rattle.gfx_cli.specs.declared.stop.Stop.TheVariants.{WantMemory, BadFile, NoSuchFrame, ReadFault, WriteFault, BadListing}
+use Rattle.gfx_cli.specs.Commands.{GoesOn, IsGood, IsBad, IsBadLine, LacksFrame, Leaves, Reads, text_by, text_before}
 use Rattle.gfx_cli.specs.Stop.{IsUnwritten}
 
 -- all was written
@@ -31,6 +31,7 @@ Stops c before after (NoSuchFrame first last) bytes left = LacksFrame c first la
 Stops c before after ReadFault bytes left = IsCutOff c before after bytes left
 Stops c before after WriteFault bytes left = AppendsPart before after (text_by c bytes)
 Stops c before after WantMemory bytes left = AppendsPart before after (text_by c bytes)
+Stops c before after (BadListing line) bytes left = IsBadLine c line bytes × Appends before after (text_before c bytes)
 
 -- how a command ends
 abbrev pub Ends : Command → Option (List ℕ) → Option (List ℕ) → Result Unit Stop → List ℕ → List ℕ → Type 0

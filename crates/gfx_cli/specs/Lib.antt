@@ -11,3 +11,4 @@ pub mod CaptureRun
 pub mod Seen
 pub mod FilesPromise
 pub mod CapturePromise
+pub mod CommandPromise

@@ -7,10 +7,11 @@ use Rattle.gfx_io.specs.Pieces.{AppendsPart}
 use Rattle.gfx_io.specs.Told.{IfTold}
 use Rattle.gfx_words.specs.declared.command.Command.{Command}
 use Rattle.gfx_cli.specs.declared.status.Status.{Status}
-use Rattle.gfx_cli.specs.declared.status.Status.TheVariants.{Done, WantMemory, Usage, BadFile, NoSuchFrame, ReadFault, WriteFault, BadScript, CallRefused, LogFull}
+use Rattle.gfx_cli.specs.declared.status.Status.TheVariants.{Done, WantMemory, Usage, BadFile, NoSuchFrame, ReadFault, WriteFault, BadScript, CallRefused, LogFull, BadListing}
 use Rattle.gfx_cli.specs.declared.stop.Stop.{Stop}
 use Rattle.gfx_cli.specs.declared.stop.Stop.TheVariants.{ReadFault as StoppedReading}
-use Rattle.gfx_cli.specs.Commands.{text_by}
+use Rattle.gfx_words.specs.declared.command.Command.TheVariants.{Unlist as Unlists}
+use Rattle.gfx_cli.specs.Commands.{AsksForFrames, Reads, ReadsCapture, text_by}
 use Rattle.gfx_cli.specs.Ends.{Ends}
 use Rattle.gfx_cli.specs.Stop.{line_of}
 use Rattle.gfx_cli.specs.Text.{usage_line}
@@ -28,6 +29,7 @@ IsOfCommands WriteFault = ⊤
 IsOfCommands BadScript = ⊥
 IsOfCommands CallRefused = ⊥
 IsOfCommands LogFull = ⊥
+IsOfCommands BadListing = ⊤
 
 -- the words name a command, and it ended so
 pub record Runs (words : List (List ℕ)) (left_old left_new taken_old taken_new : Option (List ℕ)) (end : Result Unit Stop) : Type 0 where
@@ -41,24 +43,24 @@ pub record WritesFront (words : List (List ℕ)) (left_old left_new taken_old ta
   pub named : IsNamed words command
   pub front : IfTold left_old left_new (λ bytes left. AppendsPart taken_old taken_new (text_by command bytes))
 
--- the statuses of a command that reads no file
-abbrev pub IsOfTexts : Status → Type 0
-IsOfTexts Done = ⊤
-IsOfTexts WantMemory = ⊤
-IsOfTexts WriteFault = ⊤
-IsOfTexts Usage = ⊥
-IsOfTexts BadFile = ⊥
-IsOfTexts NoSuchFrame = ⊥
-IsOfTexts ReadFault = ⊥
-IsOfTexts BadScript = ⊥
-IsOfTexts CallRefused = ⊥
-IsOfTexts LogFull = ⊥
+-- the statuses of a command
+abbrev pub MayEnd : Command → Status → Type 0
+MayEnd c Done = ⊤
+MayEnd c WantMemory = ⊤
+MayEnd c Usage = ⊥
+MayEnd c BadFile = ReadsCapture c
+MayEnd c NoSuchFrame = AsksForFrames c
+MayEnd c ReadFault = Reads c
+MayEnd c WriteFault = ⊤
+MayEnd c BadScript = ⊥
+MayEnd c CallRefused = ⊥
+MayEnd c LogFull = ⊥
+MayEnd c BadListing = c ≡ Unlists
 
 -- a command that reads no file wrote its text, or a front of it
 pub record RunsAlone (c : Command) (taken_old taken_new : Option (List ℕ)) (status : Status) : Type 0 where
   pub text : status ≡ Done → Appends taken_old taken_new (text_by c [])
   pub front : AppendsPart taken_old taken_new (text_by c [])
-  pub statuses : IsOfTexts status
 
 -- how often a source or a sink had failed before a call, and after it
 pub record Failures : Type 0 where

@@ -1,7 +1,7 @@
 -- The number of each status.
 use Rattle.std.specs.Prelude.{ℕ}
 use Rattle.gfx_cli.specs.declared.status.Status.{Status}
-use Rattle.gfx_cli.specs.declared.status.Status.TheVariants.{Done, WantMemory, Usage, BadFile, NoSuchFrame, ReadFault, WriteFault, BadScript, CallRefused, LogFull}
+use Rattle.gfx_cli.specs.declared.status.Status.TheVariants.{Done, WantMemory, Usage, BadFile, NoSuchFrame, ReadFault, WriteFault, BadScript, CallRefused, LogFull, BadListing}
 
 abbrev pub status_code : Status → ℕ
 status_code Done = 0
@@ -14,3 +14,4 @@ status_code WriteFault = 6
 status_code BadScript = 7
 status_code CallRefused = 8
 status_code LogFull = 9
+status_code BadListing = 11

@@ -21,11 +21,15 @@ info_text bytes = at_clean (blocks_of bytes).end (counts_text (minor_of bytes) (
 
 -- what is noted where the words name no command
 abbrev pub usage_line : List ℕ
-usage_line = line (codes "usage: gfxcap info; replay [--pixels] [--frames A-B]; trim A-B; capture [--frames A-B]; make N; upgrade")
+usage_line = line (codes "usage: gfxcap info; replay [--pixels] [--frames A-B]; trim A-B; capture [--frames A-B]; make N; upgrade; list; unlist")
 
 -- what is noted where a read failed
 abbrev pub read_fault_line : List ℕ
 read_fault_line = line (codes "read fault")
+
+-- the first line of a text with which it is no listing
+unfoldable pub bad_listing_line : ℕ → List ℕ
+bad_listing_line number = line (codes "bad listing line " ++ decimal number)
 
 -- which frames a file has
 unfoldable pub no_such_frame_line : ℕ → ℕ → List ℕ
@@ -56,6 +60,7 @@ help_text =
     ++ line (codes "A capture is read from standard input, and frames A to B are those with these numbers.")
     ++ line (codes "info describes it, replay writes a line with the digest of each frame, with --pixels its rows too,")
     ++ line (codes "and trim writes the capture of these frames alone. make tries the program on a capture of N frames.")
-    ++ line (codes "upgrade writes the capture in version 2.")
+    ++ line (codes "upgrade writes the capture in version 2. list writes it as text, a line for each block, and unlist")
+    ++ line (codes "makes the capture of such a text again.")
     ++ line (codes "capture runs the script that it reads on threads, and writes the capture of their calls.")
     ++ line (codes "--help and --version alone write this text and the version.")

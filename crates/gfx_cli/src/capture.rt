@@ -8,10 +8,11 @@ ghost use Rattle.gfx_types.specs.declared.names.Fault.{Fault as CallFault};
 ghost use Rattle.gfx_script.specs.declared.kind.ScriptKind.{ScriptKind};
 ghost use Rattle.gfx_words.specs.Commands.{FitsFrames};
 ghost use Rattle.gfx_words.specs.declared.recording.Recording.{Recording};
-ghost use Rattle.gfx_recording.specs.Records.{IsSafeText, Leaves};
+ghost use Rattle.gfx_recording.specs.Records.{IsSafeText, IsUnstopped, Leaves};
 ghost use Rattle.gfx_recording.specs.declared.fault.RecordingFault.TheVariants as why;
-ghost use Rattle.gfx_cli.specs.Captures.{Ends, IsFault, IsUnstopped, IsUnstoppedAt};
+ghost use Rattle.gfx_cli.specs.Captures.{Ends, IsFault, IsUnstoppedAt};
 ghost use Rattle.gfx_cli.specs.CaptureRun.{Captures, IsOfCaptures, IsCaptureNote, LeavesFront};
+ghost use Rattle.gfx_cli.specs.Commands.{asked_by};
 ghost use Rattle.gfx_cli.specs.Text.{bad_script_line, refused_line, log_full_line, no_such_frame_line, read_fault_line, usage_line};
 ghost use Rattle.gfx_cli.specs.Words.{IsAsked, IsOnlyAsked, IsUnasked};
 
@@ -49,7 +50,7 @@ fn record_frames<R: Threads + Wait + Sync, S: Source, K: Sink, G: Gate + Sync>(
     ensures ends { IfTold (S.left source.old) (S.left source.new) (Ends frames (K.taken sink.old) (K.taken sink.new) result) }
     ensures leaves { Leaves result (sink.new ≡ sink.old) }
     ensures complete { IsTold (S.left source.old) → IfSome (S.left source.old) IsSafeText → ¬ Rose (S.faults source.old) (S.faults source.new)
-        → ¬ Rose (K.faults sink.old) (K.faults sink.new) → IsUnstopped frames result }
+        → ¬ Rose (K.faults sink.old) (K.faults sink.new) → IsUnstopped (asked_by frames) result }
     ensures read_fault { result ≡ Err why.ReadFault → Rose (S.faults source.old) (S.faults source.new) }
     ensures sink_fault { result ≡ Err why.SinkFault → Rose (K.faults sink.old) (K.faults sink.new) }
     ensures later { (S.faults source.old ≤ S.faults source.new) × (K.faults sink.old ≤ K.faults sink.new) }

@@ -11,14 +11,17 @@ ghost use Rattle.gfx_trim.specs.Keeps.{Keeps};
 ghost use Rattle.gfx_cli.specs.Commands.{Reads, asked_by};
 ghost use Rattle.gfx_trial.specs.Text.{trial_text};
 ghost use Rattle.gfx_upgrade.specs.Laws.{TookSame};
+ghost use Rattle.gfx_list.specs.Lists.{TookListing};
+ghost use Rattle.gfx_list.specs.Unlists.{IsUnlisted};
 ghost use Rattle.gfx_cli.specs.Ends.{Ends, EndsAlone};
-ghost use Rattle.gfx_cli.specs.Stop.{IsUnwritten, MissesNone};
+ghost use Rattle.gfx_cli.specs.Stop.{IsUnwritten, MayStop};
 ghost use Rattle.gfx_cli.specs.Words.{IsNamed, IsOutside, IsOnly};
-ghost use Rattle.gfx_words.specs.declared.command.Command.TheVariants.{Info, Replay, Trim, Upgrade};
+ghost use Rattle.gfx_words.specs.declared.command.Command.TheVariants.{Info, Replay, Trim, Upgrade, List as Lists, Unlist as Unlists};
 
 use crate::Stop;
 use crate::info::write_counts;
 use gfx_io::{Sink, Source, write_whole};
+use gfx_list::{list, unlist};
 use gfx_play::show_frames;
 use gfx_player::Asked;
 use gfx_trial::write_trial;
@@ -28,11 +31,12 @@ use gfx_words::{Command, FrameRange};
 use std::alloc::Global;
 
 const HELP: &str =
-    "usage: gfxcap info; replay [--pixels] [--frames A-B]; trim A-B; capture [--frames A-B]; make N; upgrade
+    "usage: gfxcap info; replay [--pixels] [--frames A-B]; trim A-B; capture [--frames A-B]; make N; upgrade; list; unlist
 A capture is read from standard input, and frames A to B are those with these numbers.
 info describes it, replay writes a line with the digest of each frame, with --pixels its rows too,
 and trim writes the capture of these frames alone. make tries the program on a capture of N frames.
-upgrade writes the capture in version 2.
+upgrade writes the capture in version 2. list writes it as text, a line for each block, and unlist
+makes the capture of such a text again.
 capture runs the script that it reads on threads, and writes the capture of their calls.
 --help and --version alone write this text and the version.
 ";
@@ -67,6 +71,7 @@ fn replay<S: Source, K: Sink>(
     sink: &mut K,
 ) -> Result<(), Stop>
     ensures ends { IfTold (S.left source.old) (S.left source.new) (Ends (Replay pixels frames) (K.taken sink.old) (K.taken sink.new) result) }
+    ensures may { IfErr result (MayStop (Replay pixels frames)) }
     ensures read_fault { result ≡ Err Stop.ReadFault → Rose (S.faults source.old) (S.faults source.new) }
     ensures write_fault { result ≡ Err Stop.WriteFault → Rose (K.faults sink.old) (K.faults sink.new) }
     ensures later { (S.faults source.old ≤ S.faults source.new) × (K.faults sink.old ≤ K.faults sink.new) }
@@ -84,6 +89,7 @@ fn cut<S: Source, K: Sink>(
 ) -> Result<(), Stop>
     requires { FitsRange range }
     ensures ends { IfTold (S.left source.old) (S.left source.new) (Ends (Trim range) (K.taken sink.old) (K.taken sink.new) result) }
+    ensures may { IfErr result (MayStop (Trim range)) }
     ensures keeps { IfTold (S.left source.old) (S.left source.new) (λ bytes _. OnOk result (Keeps range.first range.last (K.taken sink.old) (K.taken sink.new) bytes)) }
     ensures read_fault { result ≡ Err Stop.ReadFault → Rose (S.faults source.old) (S.faults source.new) }
     ensures write_fault { result ≡ Err Stop.WriteFault → Rose (K.faults sink.old) (K.faults sink.new) }
@@ -97,12 +103,42 @@ fn cut<S: Source, K: Sink>(
 fn renew<S: Source, K: Sink>(alloc: Global, source: &mut S, sink: &mut K) -> Result<(), Stop>
     ensures ends { IfTold (S.left source.old) (S.left source.new) (Ends Upgrade (K.taken sink.old) (K.taken sink.new) result) }
     ensures same { IfTold (S.left source.old) (S.left source.new) (λ bytes _. OnOk result (TookSame (K.taken sink.old) (K.taken sink.new) bytes)) }
-    ensures why { IfErr result MissesNone }
+    ensures may { IfErr result (MayStop Upgrade) }
     ensures read_fault { result ≡ Err Stop.ReadFault → Rose (S.faults source.old) (S.faults source.new) }
     ensures write_fault { result ≡ Err Stop.WriteFault → Rose (K.faults sink.old) (K.faults sink.new) }
     ensures later { (S.faults source.old ≤ S.faults source.new) × (K.faults sink.old ≤ K.faults sink.new) }
 {
     upgrade(alloc, source, sink)?;
+    Ok(())
+}
+
+/// Writes the listing of the file.
+fn write_listing<S: Source, K: Sink>(
+    alloc: Global,
+    source: &mut S,
+    sink: &mut K,
+) -> Result<(), Stop>
+    ensures ends { IfTold (S.left source.old) (S.left source.new) (Ends Lists (K.taken sink.old) (K.taken sink.new) result) }
+    ensures listing { IfTold (S.left source.old) (S.left source.new) (λ bytes _. OnOk result (TookListing (K.taken sink.old) (K.taken sink.new) bytes)) }
+    ensures may { IfErr result (MayStop Lists) }
+    ensures read_fault { result ≡ Err Stop.ReadFault → Rose (S.faults source.old) (S.faults source.new) }
+    ensures write_fault { result ≡ Err Stop.WriteFault → Rose (K.faults sink.old) (K.faults sink.new) }
+    ensures later { (S.faults source.old ≤ S.faults source.new) × (K.faults sink.old ≤ K.faults sink.new) }
+{
+    list(alloc, source, sink)?;
+    Ok(())
+}
+
+/// Writes the file of the listing that is read.
+fn read_listing<S: Source, K: Sink>(alloc: Global, source: &mut S, sink: &mut K) -> Result<(), Stop>
+    ensures ends { IfTold (S.left source.old) (S.left source.new) (Ends Unlists (K.taken sink.old) (K.taken sink.new) result) }
+    ensures unlisted { IfTold (S.left source.old) (S.left source.new) (λ text left. OnOk result (IsUnlisted (Appends (K.taken sink.old) (K.taken sink.new)) text left)) }
+    ensures may { IfErr result (MayStop Unlists) }
+    ensures read_fault { result ≡ Err Stop.ReadFault → Rose (S.faults source.old) (S.faults source.new) }
+    ensures write_fault { result ≡ Err Stop.WriteFault → Rose (K.faults sink.old) (K.faults sink.new) }
+    ensures later { (S.faults source.old ≤ S.faults source.new) × (K.faults sink.old ≤ K.faults sink.new) }
+{
+    unlist(alloc, source, sink)?;
     Ok(())
 }
 
@@ -143,8 +179,9 @@ pub(crate) fn run_command<S: Source, K: Sink>(
     ensures keeps { (range : Range) → command ≡ Trim range → IfTold (S.left source.old) (S.left source.new) (λ bytes _. OnOk result (Keeps range.first range.last (K.taken sink.old) (K.taken sink.new) bytes)) }
     ensures unread { ¬ Reads command → source.new ≡ source.old }
     ensures alone { ¬ Reads command → EndsAlone command (K.taken sink.old) (K.taken sink.new) result }
-    ensures info { command ≡ Info → IfErr result MissesNone }
-    ensures upgrade { command ≡ Upgrade → IfErr result MissesNone }
+    ensures may { IfErr result (MayStop command) }
+    ensures listing { command ≡ Lists → IfTold (S.left source.old) (S.left source.new) (λ bytes _. OnOk result (TookListing (K.taken sink.old) (K.taken sink.new) bytes)) }
+    ensures unlisted { command ≡ Unlists → IfTold (S.left source.old) (S.left source.new) (λ text left. OnOk result (IsUnlisted (Appends (K.taken sink.old) (K.taken sink.new)) text left)) }
     ensures same { command ≡ Upgrade → IfTold (S.left source.old) (S.left source.new) (λ bytes _. OnOk result (TookSame (K.taken sink.old) (K.taken sink.new) bytes)) }
     ensures read_fault { result ≡ Err Stop.ReadFault → Rose (S.faults source.old) (S.faults source.new) }
     ensures write_fault { result ≡ Err Stop.WriteFault → Rose (K.faults sink.old) (K.faults sink.new) }
@@ -157,6 +194,8 @@ pub(crate) fn run_command<S: Source, K: Sink>(
         Command::Version => write_text(VERSION, sink),
         Command::Trim(range) => cut(alloc, range, source, sink),
         Command::Upgrade => renew(alloc, source, sink),
+        Command::List => write_listing(alloc, source, sink),
+        Command::Unlist => read_listing(alloc, source, sink),
         Command::Make { frames } => make(alloc, frames, sink),
     }
 }

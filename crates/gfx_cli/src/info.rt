@@ -4,7 +4,7 @@ ghost use Rattle.gfx_io.specs.Causes.{Rose};
 ghost use Rattle.gfx_io.specs.Told.{IfTold};
 ghost use Rattle.gfx_words.specs.declared.command.Command.TheVariants.{Info};
 ghost use Rattle.gfx_cli.specs.Ends.{Ends};
-ghost use Rattle.gfx_cli.specs.Stop.{MissesNone};
+ghost use Rattle.gfx_cli.specs.Stop.{MayStop};
 
 use crate::Stop;
 use crate::counts::count;
@@ -18,7 +18,7 @@ pub(crate) fn write_counts<S: Source, K: Sink>(
     sink: &mut K,
 ) -> Result<(), Stop>
     ensures ends { IfTold (S.left source.old) (S.left source.new) (Ends Info (K.taken sink.old) (K.taken sink.new) result) }
-    ensures why { IfErr result MissesNone }
+    ensures may { IfErr result (MayStop Info) }
     ensures read_fault { result ≡ Err Stop.ReadFault → Rose (S.faults source.old) (S.faults source.new) }
     ensures write_fault { result ≡ Err Stop.WriteFault → Rose (K.faults sink.old) (K.faults sink.new) }
     ensures later { (S.faults source.old ≤ S.faults source.new) × (K.faults sink.old ≤ K.faults sink.new) }

@@ -5,7 +5,7 @@ ghost use Rattle.gfx_io.specs.Causes.{Rose};
 ghost use Rattle.gfx_io.specs.Pieces.{AppendsPart};
 ghost use Rattle.gfx_cli.specs.Stop.{line_of, status_of};
 ghost use Rattle.gfx_model.specs.Text.{bad_line};
-ghost use Rattle.gfx_cli.specs.Text.{no_such_frame_line};
+ghost use Rattle.gfx_cli.specs.Text.{bad_listing_line, no_such_frame_line};
 
 use crate::{Status, Stop};
 use gfx_io::{Failed, Sink, write_whole};
@@ -35,6 +35,10 @@ pub(crate) fn tell<N: Sink>(alloc: Global, stop: Stop, notes: &mut N) -> Status
         },
         Stop::NoSuchFrame { first, last } => match no_such_frame(alloc, first, last) {
             Ok(line) => note(notes, line.as_str(), Status::NoSuchFrame),
+            Err(AllocError) => Status::WantMemory,
+        },
+        Stop::BadListing { line } => match bad_listing(alloc, line) {
+            Ok(text) => note(notes, text.as_str(), Status::BadListing),
             Err(AllocError) => Status::WantMemory,
         },
         Stop::ReadFault => note(notes, READ_FAULT, Status::ReadFault),
@@ -71,4 +75,12 @@ fn no_such_frame(alloc: Global, first: u64, last: u64) -> Result<String, AllocEr
     ensures { IfOk result (λ line. string_bytes line ≡ no_such_frame_line first last) }
 {
     format!(in alloc; "no such frame: the file has {first} to {last}\n")
+}
+
+/// The line that names the first bad line of a text.
+#[tactic(auto, unfolding(crate::specs::Text::bad_listing_line))]
+fn bad_listing(alloc: Global, number: u64) -> Result<String, AllocError>
+    ensures { IfOk result (λ line. string_bytes line ≡ bad_listing_line number) }
+{
+    format!(in alloc; "bad listing line {number}\n")
 }

@@ -15,6 +15,7 @@ pub enum Status {
     BadScript,
     CallRefused,
     LogFull,
+    BadListing = 11,
 }
 
 impl Status {

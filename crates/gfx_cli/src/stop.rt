@@ -1,10 +1,11 @@
 // Why a command ends before its work is done.
 ghost use Rattle.std.specs.Prelude.{◌≡◌};
 ghost use Rattle.gfx_cli.specs.declared.stop.Stop.TheVariants.{WantMemory as NoMemory, WriteFault as NotWritten};
-ghost use Rattle.gfx_cli.specs.Stop.{of_decoder, of_play, of_trial};
+ghost use Rattle.gfx_cli.specs.Stop.{of_decoder, of_play, of_trial, of_unlist};
 
 use gfx_decode::DecodeFault;
 use gfx_io::Failed;
+use gfx_list::UnlistFault;
 use gfx_player::PlayFault;
 use gfx_trial::TrialFault;
 use gfx_types::Fault;
@@ -25,6 +26,10 @@ pub enum Stop {
     },
     ReadFault,
     WriteFault,
+    /// The text that is read is no listing from this line on.
+    BadListing {
+        line: u64,
+    },
 }
 
 impl From<DecodeFault> for Stop {
@@ -53,6 +58,19 @@ impl From<PlayFault> for Stop {
             PlayFault::ReadFault => Stop::ReadFault,
             PlayFault::SinkFault => Stop::WriteFault,
             PlayFault::WantMemory => Stop::WantMemory,
+        }
+    }
+}
+
+impl From<UnlistFault> for Stop {
+    ghost from_gives = { λ fault stop. stop ≡ of_unlist fault };
+
+    fn from(fault: UnlistFault) -> Self {
+        match fault {
+            UnlistFault::BadListing { line } => Stop::BadListing { line },
+            UnlistFault::ReadFault => Stop::ReadFault,
+            UnlistFault::SinkFault => Stop::WriteFault,
+            UnlistFault::WantMemory => Stop::WantMemory,
         }
     }
 }

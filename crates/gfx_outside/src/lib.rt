@@ -1,7 +1,7 @@
 //! A run of the program for tests, with all that is outside of it in memory.
 #![tactic(auto)]
 
-use gfx_cli::run_files;
+use gfx_cli::{Status, run_files};
 use gfx_io::{MemSink, MemSource};
 use std::alloc::{AllocError, Global};
 use std::test::Fail;
@@ -44,6 +44,25 @@ pub fn trim<'a>(alloc: Global, range: &'a str, file: &'a [u8]) -> Result<Ended, 
     Outside::of(&words, file).run(alloc)
 }
 
+/// The streams of a run, in memory.
+#[derive(Drop)]
+struct Streams {
+    source: MemSource,
+    sink: MemSink,
+    notes: MemSink,
+}
+
+impl Streams {
+    fn ended(self, status: Status) -> Ended {
+        Ended {
+            status: status.code(),
+            text: self.sink.into_bytes(),
+            notes: self.notes.into_bytes(),
+            left: self.source.left().len(),
+        }
+    }
+}
+
 impl<'a> Outside<'a> {
     /// These words over input that comes whole, where no call fails.
     pub fn of(words: &'a [&'a str], input: &'a [u8]) -> Self {
@@ -75,21 +94,28 @@ impl<'a> Outside<'a> {
     /// How it ends.
     pub fn run(self, alloc: Global) -> Result<Ended, AllocError> {
         let words = words_of(alloc, self.words)?;
-        let mut source = MemSource::new(
+        let mut streams = self.streams(alloc)?;
+        let Streams {
+            source,
+            sink,
+            notes,
+        } = &mut streams;
+        let status = run_files(alloc, &words, source, sink, notes);
+        Ok(streams.ended(status))
+    }
+
+    fn streams(self, alloc: Global) -> Result<Streams, AllocError> {
+        let source = MemSource::new(
             Vec::from_slice(alloc, self.input)?,
             self.most,
             Vec::from_slice(alloc, self.failing_reads)?,
         );
         let writes = Vec::from_slice(alloc, self.failing_writes)?;
-        let mut sink = MemSink::new(alloc, self.most, writes);
         let noted = Vec::from_slice(alloc, self.failing_notes)?;
-        let mut notes = MemSink::new(alloc, self.most, noted);
-        let status = run_files(alloc, &words, &mut source, &mut sink, &mut notes);
-        Ok(Ended {
-            status: status.code(),
-            text: sink.into_bytes(),
-            notes: notes.into_bytes(),
-            left: source.left().len(),
+        Ok(Streams {
+            source,
+            sink: MemSink::new(alloc, self.most, writes),
+            notes: MemSink::new(alloc, self.most, noted),
         })
     }
 

@@ -17,7 +17,7 @@ use Rattle.gfx_recorder.specs.declared.outcome.Outcome.TheVariants as ran
 use Rattle.gfx_recording.specs.declared.fault.RecordingFault.{RecordingFault}
 use Rattle.gfx_recording.specs.declared.fault.RecordingFault.TheVariants.{BadScript, CallRefused, LogFull, NoSuchFrame, ReadFault, SinkFault, WantMemory}
 use Rattle.gfx_recording.specs.Faults.{IsUnread}
-use Rattle.gfx_recording.specs.Records.{IsRecorded, IsSafeText, IsScriptOf, IsUnstopped, Leaves, Records, Writes}
+use Rattle.gfx_recording.specs.Records.{IsRecorded, IsSafeText, IsScriptOf, IsUnstopped, Leaves, LeftMeans, Records, Writes}
 use Rattle.gfx_recording.proofs.Length.{parses_small}
 
 -- the answers to a text that is no script, and to one that was not read
@@ -137,11 +137,11 @@ script_safe (Some bytes) (Some rest) text m phases reads ended is told safe = sa
 
 -- what a run left and what was written of it
 pub run_told : (asked : Asked) (left new before after : Option (List ℕ)) (text : List ℕ) (m : ℕ) (phases : List (List Part)) (outcome : Outcome) (result : Result Unit RecordingFault)
-    → Consumes left new text → (length text ≤ max_script → IsAtEnd new) → Parses text (parses m phases) → IsOutcome m phases outcome → Writes asked before after outcome result
+    → Consumes left new text → (length text ≤ max_script → IsAtEnd new) → Parses text (parses m phases) → IsOutcome m phases outcome → LeftMeans outcome → Writes asked before after outcome result
     → IfTold left new (Records asked before after result)
-run_told asked None new before after text m phases outcome result reads ended is ran wrote = tt
-run_told asked (Some bytes) None before after text m phases outcome result reads ended is ran wrote = absurd reads
-run_told asked (Some bytes) (Some rest) before after text m phases outcome result reads ended is ran wrote =
+run_told asked None new before after text m phases outcome result reads ended is ran means wrote = tt
+run_told asked (Some bytes) None before after text m phases outcome result reads ended is ran means wrote = absurd reads
+run_told asked (Some bytes) (Some rest) before after text m phases outcome result reads ended is ran means wrote =
     let none : rest ≡ [] = ended (parses_small text m phases is) in
     let whole : bytes ≡ text = reads ∙ ap (λ (z : List ℕ). text ++ z) none ∙ append-nil text in
     recorded asked before after result bytes rest (record {
@@ -151,5 +151,6 @@ run_told asked (Some bytes) (Some rest) before after text m phases outcome resul
       parses = subst (λ (t : List ℕ). Parses t (parses m phases)) (sym whole) is;
       outcome = outcome;
       ran = ran;
+      means = means;
       wrote = wrote;
     })

@@ -14,7 +14,7 @@ use Rattle.gfx_player.specs.declared.asked.Asked.TheVariants.{Between}
 use Rattle.gfx_recorder.specs.Outcomes.{IsOutcome}
 use Rattle.gfx_recorder.specs.declared.outcome.Outcome.{Outcome}
 use Rattle.gfx_recorder.specs.declared.outcome.Outcome.TheVariants as ran
-use Rattle.gfx_recording.specs.Writing.{TookThen, WritesAsked}
+use Rattle.gfx_recording.specs.Writing.{MeansHistory, TookThen, WritesAsked}
 use Rattle.gfx_recording.specs.declared.fault.RecordingFault.{RecordingFault}
 use Rattle.gfx_recording.specs.declared.fault.RecordingFault.TheVariants.{BadScript, CallRefused, LogFull, NoSuchFrame, ReadFault, SinkFault, WantMemory}
 
@@ -47,9 +47,16 @@ Writes asked before after (ran.Refused line fault at log) result = TookThen (Cal
 Writes asked before after (ran.LogFull long wanted log) result = TookThen (LogFull long wanted) before after (log_file log.minor log.entries) result
 Writes asked before after ran.WantMemory result = (result ≡ Err WantMemory) × (after ≡ before)
 
+-- the log that a run left means its history, as a file
+abbrev pub LeftMeans : Outcome → Type 0
+LeftMeans (ran.Done log) = MeansHistory log.minor log.entries
+LeftMeans (ran.Refused line fault at log) = MeansHistory log.minor log.entries
+LeftMeans (ran.LogFull long wanted log) = MeansHistory log.minor log.entries
+LeftMeans ran.WantMemory = ⊤
+
 -- ---- the recording
 
--- the source was read to its end, its text is a script, which was run, and this is what was written of what the run left
+-- the source was read to its end, its text is a script, which was run, the log that the run left is a file of its history, and this is what was written of it
 pub record IsRecorded (asked : Asked) (before after : Option (List ℕ)) (result : Result Unit RecordingFault) (bytes rest : List ℕ) : Type 0 where
   pub read : rest ≡ []
   pub minor : ℕ
@@ -57,6 +64,7 @@ pub record IsRecorded (asked : Asked) (before after : Option (List ℕ)) (result
   pub parses : Parses bytes (parses minor phases)
   pub outcome : Outcome
   pub ran : IsOutcome minor phases outcome
+  pub means : LeftMeans outcome
   pub wrote : Writes asked before after outcome result
 
 -- how a recording ends

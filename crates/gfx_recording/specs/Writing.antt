@@ -2,6 +2,10 @@
 use Rattle.std.specs.Prelude.{◌≡◌, ◌⊎◌, ◌≤◌, ℕ, List, Option, Result, Ok, Err, ⊤}
 use Rattle.std.specs.Io.KnownBytes.{Appends}
 use Rattle.gfx_io.specs.Pieces.{AppendsPart}
+use Rattle.gfx_model.specs.Blocks.{clean}
+use Rattle.gfx_model.specs.Frames.{frames}
+use Rattle.gfx_model.specs.Meaning.{Means}
+use Rattle.gfx_script_model.specs.Runs.{Entry, history}
 use Rattle.gfx_capture.specs.Log.{Logged}
 use Rattle.gfx_log_law.specs.Logs.{log_file}
 use Rattle.gfx_player.specs.declared.asked.Asked.{Asked}
@@ -16,6 +20,10 @@ use Rattle.gfx_recording.specs.declared.fault.RecordingFault.TheVariants.{NoSuch
 abbrev pub IsOrdered : Asked → Type 0
 IsOrdered All = ⊤
 IsOrdered (Between first last) = first ≤ last
+
+-- the file of a log ends cleanly, and shows the frames of its history
+abbrev pub MeansHistory : ℕ → List Entry → Type 0
+MeansHistory m log = Means (log_file m log) (frames (history log)) clean
 
 -- a whole file was written, or a front of it and a write failed
 abbrev pub Took : Option (List ℕ) → Option (List ℕ) → List ℕ → Result Unit RecordingFault → Type 0

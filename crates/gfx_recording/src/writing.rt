@@ -6,7 +6,7 @@ ghost use Rattle.gfx_model.specs.Blocks.{clean};
 ghost use Rattle.gfx_model.specs.Meaning.{Means};
 ghost use Rattle.gfx_log_law.specs.Logs.{log_file};
 ghost use Rattle.gfx_recording.specs.Faults.{IsCutFault, recording_fault};
-ghost use Rattle.gfx_recording.specs.Writing.{Cuts, IsOrdered, Took, TookThen, WritesAsked};
+ghost use Rattle.gfx_recording.specs.Writing.{Cuts, IsOrdered, MeansHistory, Took, TookThen, WritesAsked};
 
 use crate::RecordingFault;
 use gfx_capture::Log;
@@ -23,6 +23,7 @@ pub(crate) fn write_asked<K: Sink>(
     sink: &mut K,
 ) -> Result<(), RecordingFault>
     requires { IsOrdered asked }
+    ensures means { MeansHistory log.now.minor log.now.entries }
     ensures wrote { WritesAsked asked (K.taken sink.old) (K.taken sink.new) log.now result }
     ensures sink_fault { result ≡ Err RecordingFault.SinkFault → Rose (K.faults sink.old) (K.faults sink.new) }
     ensures later { K.faults sink.old ≤ K.faults sink.new }
@@ -40,6 +41,7 @@ pub(crate) fn write_halted<K: Sink>(
     sink: &mut K,
 ) -> Result<(), RecordingFault>
     requires { why ≡ RecordingFault.SinkFault → ⊥ }
+    ensures means { MeansHistory log.now.minor log.now.entries }
     ensures wrote { TookThen why (K.taken sink.old) (K.taken sink.new) (log_file log.now.minor log.now.entries) result }
     ensures sink_fault { result ≡ Err RecordingFault.SinkFault → Rose (K.faults sink.old) (K.faults sink.new) }
     ensures later { K.faults sink.old ≤ K.faults sink.new }
@@ -50,6 +52,7 @@ pub(crate) fn write_halted<K: Sink>(
 
 /// Writes the whole log.
 fn write_log<K: Sink>(log: &Log, sink: &mut K) -> Result<(), RecordingFault>
+    ensures means { MeansHistory log.now.minor log.now.entries }
     ensures took { Took (K.taken sink.old) (K.taken sink.new) (log_file log.now.minor log.now.entries) result }
     ensures sink_fault { result ≡ Err RecordingFault.SinkFault → Rose (K.faults sink.old) (K.faults sink.new) }
     ensures later { K.faults sink.old ≤ K.faults sink.new }
@@ -69,6 +72,7 @@ fn write_cut<K: Sink>(
     sink: &mut K,
 ) -> Result<(), RecordingFault>
     requires { first ≤ last }
+    ensures means { MeansHistory log.now.minor log.now.entries }
     ensures cuts { Cuts first last (K.taken sink.old) (K.taken sink.new) (log_file log.now.minor log.now.entries) result }
     ensures sink_fault { result ≡ Err RecordingFault.SinkFault → Rose (K.faults sink.old) (K.faults sink.new) }
     ensures later { K.faults sink.old ≤ K.faults sink.new }

@@ -3,7 +3,7 @@ use Rattle.std.specs.Prelude.{◌≤◌, ℕ, Bool, if◌then◌else◌, List, [
 use Rattle.gfx_words.specs.declared.range.FrameRange.{FrameRange}
 use Rattle.gfx_words.specs.declared.command.Command.{Command}
 use Rattle.gfx_words.specs.declared.recording.Recording.{Recording}
-use Rattle.gfx_words.specs.declared.command.Command.TheVariants.{Info, Replay, Trim, Upgrade, Make, Help, Version}
+use Rattle.gfx_words.specs.declared.command.Command.TheVariants.{Info, Replay, Trim, Upgrade, List as Lists, Unlist as Unlists, Make, Help, Version}
 use Rattle.gfx_words.specs.Words.{range_text, FitsRange}
 
 -- the words that ask for a range
@@ -21,6 +21,8 @@ words_of Info = codes "info" ∷ []
 words_of (Replay pixels frames) = codes "replay" ∷ pixels_words pixels ++ frames_words frames
 words_of (Trim r) = codes "trim" ∷ range_text r ∷ []
 words_of Upgrade = codes "upgrade" ∷ []
+words_of Lists = codes "list" ∷ []
+words_of Unlists = codes "unlist" ∷ []
 words_of (Make frames) = codes "make" ∷ decimal frames ∷ []
 words_of Help = codes "--help" ∷ []
 words_of Version = codes "--version" ∷ []
@@ -40,6 +42,8 @@ Fits Info = ⊤
 Fits (Replay pixels frames) = FitsFrames frames
 Fits (Trim r) = FitsRange r
 Fits Upgrade = ⊤
+Fits Lists = ⊤
+Fits Unlists = ⊤
 Fits (Make frames) = (3 ≤ frames) × (frames ≤ 1000)
 Fits Help = ⊤
 Fits Version = ⊤

@@ -14,6 +14,8 @@ pub enum Command {
     },
     Trim(FrameRange),
     Upgrade,
+    List,
+    Unlist,
     /// How many frames the file is to have, 3 to 1,000.
     Make {
         frames: u64,
@@ -70,6 +72,8 @@ impl Command {
                 frames: None,
             }),
             "upgrade" => Some(Command::Upgrade),
+            "list" => Some(Command::List),
+            "unlist" => Some(Command::Unlist),
             "--help" => Some(Command::Help),
             "--version" => Some(Command::Version),
             _ => None,

@@ -1,10 +1,9 @@
 use Rattle.std.proofs.Common.{subst}
 use Rattle.gfx_decode.proofs.Told.{told_if}
 use Rattle.gfx_io.specs.Told.{IfTold}
-use Rattle.gfx_recording.specs.Records.{Records}
-use Rattle.gfx_recording.specs.Records as recording
+use Rattle.gfx_recording.specs.Records.{IsUnstopped, Records}
 use Rattle.gfx_cli.specs.Commands.{asked_by}
-use Rattle.gfx_cli.proofs.Recorded.{ends_of, unstopped_by}
+use Rattle.gfx_cli.proofs.Recorded.{ends_of}
 use Rattle.gfx_cli.proofs.capture.record_frames.Goals as goal
 
 pub returns-clause-ends : goal.returns-clause-ends
@@ -17,4 +16,4 @@ returns-clause-ends g c =
 
 pub returns-clause-complete : goal.returns-clause-complete
 returns-clause-complete g c told safe reads writes =
-    unstopped_by c.args.frames c.record.result (subst (λ a. recording.IsUnstopped a c.record.result) c.asked_by-asked.ensures (c.record.ensures.complete told safe reads writes))
+    subst (λ a. IsUnstopped a c.record.result) c.asked_by-asked.ensures (c.record.ensures.complete told safe reads writes)

@@ -51,26 +51,4 @@ pub returns-then-begins_capture-clause-files : goal.returns-then-begins_capture-
 returns-then-begins_capture-clause-files g c other = absurd (other (c.begins_capture.ensures.yes c.if-begins_capture.true))
 
 pub returns-else-begins_capture-clause-files : goal.returns-else-begins_capture-clause-files
-returns-else-begins_capture-clause-files g c other =
-    record {
-      statuses = c.run_files.ensures.statuses;
-      usage = c.run_files.ensures.usage;
-      refused = c.run_files.ensures.refused;
-      unread = c.run_files.ensures.unread;
-      alone = c.run_files.ensures.alone;
-      info = c.run_files.ensures.info;
-      done = c.run_files.ensures.done;
-      keeps = c.run_files.ensures.keeps;
-      same = c.run_files.ensures.same;
-      complete = c.run_files.ensures.complete;
-      bad_file = c.run_files.ensures.bad_file;
-      bad_exactly = c.run_files.ensures.bad_exactly;
-      no_such_frame = c.run_files.ensures.no_such_frame;
-      lacks_exactly = c.run_files.ensures.lacks_exactly;
-      read_fault = c.run_files.ensures.read_fault;
-      write_fault = c.run_files.ensures.write_fault;
-      later = c.run_files.ensures.later;
-      front = c.run_files.ensures.front;
-      noted = c.run_files.ensures.noted;
-      no_memory = c.run_files.ensures.no_memory;
-    }
+returns-else-begins_capture-clause-files g c other = c.run_files.ensures

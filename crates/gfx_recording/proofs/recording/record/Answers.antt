@@ -18,7 +18,7 @@ returns-clause-told g c =
     let script = c.in_ok-script.script in
     let is = subst (λ (t : List ℕ). IsScriptOf t (Ok script)) c.as_slice.ensures.value c.in_ok-script.ensures.script in
     run_told c.args.asked _ _ _ _ c.in_ok-text.text.items script.minor (phases_of script.phases) c.record_script-outcome.result _ c.in_ok-text.ensures.text c.in_ok-text.ensures.ended is.0
-    c.record_script-outcome.ensures.outcome c.write_outcome.ensures.wrote
+    c.record_script-outcome.ensures.outcome c.write_outcome.ensures.means c.write_outcome.ensures.wrote
 
 pub returns-clause-complete : goal.returns-clause-complete
 returns-clause-complete g c = λ told safe read written.
