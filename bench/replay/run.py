@@ -233,7 +233,8 @@ def main():
             compare([program, "trim", f"{frames // 3}-{2 * frames // 3}"], path, ["cat"], path, 2)
 
 
-try:
-    main()
-except subprocess.CalledProcessError as failed:
-    sys.exit(str(failed))
+if __name__ == "__main__":
+    try:
+        main()
+    except subprocess.CalledProcessError as failed:
+        sys.exit(str(failed))
