@@ -27,7 +27,7 @@ pub events-more : (rs : List Recorded) (r : Recorded) → events_in (rs ++ r ∷
 events-more [] r = refl
 events-more (q ∷ rs) r = ap (λ es. event_in q ∷ es) (events-more rs r)
 
-flat_map-more : {X Y : Type 0} (f : X → List Y) (xs : List X) (x : X) → flat_map f (xs ++ x ∷ []) ≡ flat_map f xs ++ f x
+pub flat_map-more : {X Y : Type 0} (f : X → List Y) (xs : List X) (x : X) → flat_map f (xs ++ x ∷ []) ≡ flat_map f xs ++ f x
 flat_map-more f [] x = right (f x)
   where
     right : {Y : Type 0} (ys : List Y) → ys ++ [] ≡ ys

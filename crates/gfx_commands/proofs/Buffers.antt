@@ -53,6 +53,21 @@ module _ (m n : FinMap nat_cmp Recording) (id : ℕ) where
     changed r f is e = λ i x. (at_row (Some r) (ap map.get is ∙ got-insert m id r) x (f (buffers m x))
         (λ h. e ∙ ap f (sym (found m id (Some o) some) ∙ ap (buffers m) h))) i
 
+-- ---- invalidated
+
+-- a buffer that isn't kept stays as it is
+pub stays_new : (m : FinMap nat_cmp Recording) (cb : ℕ) → is_some (map.get m cb) ≡ false → buffers m ≡ (λ x. if cb == x then invalidated true (buffers m x) else buffers m x)
+stays_new m cb none = λ i x. (choose cb x (buffers m x) (invalidated true (buffers m x)) (buffers m x) (λ e. here x e) (λ e. refl)) i
+  where
+    its : (o : Option Recording) → is_some o ≡ false → o ≡ None
+    its None e = refl
+    its (Some r) e = cc
+
+    here : (x : ℕ) → cb ≡ x → buffers m x ≡ invalidated true (buffers m x)
+    here x e =
+        let is : buffers m x ≡ new_buffer = sym (ap (buffers m) e) ∙ found m cb None (its (map.get m cb) none) in
+        is ∙ sym (ap (invalidated true) is)
+
 -- ---- executed
 
 module _ (b : ℕ → Buffer) (cb : ℕ) where

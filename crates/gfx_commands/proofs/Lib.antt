@@ -8,3 +8,7 @@ pub mod Passing
 pub mod Named
 pub mod Running
 pub mod Laid
+pub mod Naming
+pub mod Losing
+pub mod Childless
+pub mod Indexed

@@ -1,5 +1,5 @@
 -- Which resources are named, and what is said of one of them.
-use Rattle.std.proofs.Common.{◌≡◌, ℕ, ◌≤◌, Bool, true, false, ◌||◌, List, [], ◌∷◌, Option, Some, None, is_some, refl, ap, sym, ◌∙◌, arith}
+use Rattle.std.proofs.Common.{◌≡◌, ℕ, ◌≤◌, Bool, true, false, ◌||◌, List, [], ◌∷◌, Option, Some, None, is_some, refl, ap, ◌∙◌, arith}
 use Rattle.std.specs.Prelude.{option_and_then, flat_map}
 use Rattle.std.specs.List.{list_any}
 use Rattle.std.specs.Ordering.{nat_cmp}
@@ -8,12 +8,9 @@ use Rattle.std.specs.FinMap.{FinMap}
 use Rattle.std.proofs.lemmas.Bool.Decides.{nat_tests}
 use Rattle.std.proofs.lemmas.List.Folds.{list_any-append}
 use Rattle.gfx_table.specs.Slots.{least_above}
-use Rattle.gfx_model.specs.Checks.{Layouts, is_among}
 use Rattle.gfx_objects.specs.declared.object.Object.{Object}
 use Rattle.gfx_objects.specs.Object.{bound_of}
 use Rattle.gfx_objects.specs.Objects.{Kept, answers}
-use Rattle.gfx_commands.specs.declared.uses.Use.{Use}
-use Rattle.gfx_commands.specs.Uses.{IsIndex}
 use Rattle.gfx_commands.proofs.Rising.{least_first, least_none}
 
 pub bound_at : (k : Kept) (id : ℕ) (o : Option Object) → map.get k.rows id ≡ o → (answers k).bound id ≡ option_and_then (λ o. bound_of o.detail) o
@@ -21,30 +18,9 @@ unfolding answers
 bound_at k id o is = ap (option_and_then (λ o. bound_of o.detail)) is
 
 module _ (p : ℕ → Bool) where
-  any_among : (xs : List ℕ) (x : ℕ) → is_among x xs ≡ true → p x ≡ true → list_any p xs ≡ true
-  any_among [] x among px = cc
-  any_among (y ∷ ys) x among px =
-      let rest = any_among ys x in
-      let same : y ≡ x → p y ≡ p x = ap p in
-      grind (arith, nat_tests, among, px, rest, same)
-
-  none_among : (xs : List ℕ) → ((x : ℕ) → is_among x xs ≡ true → p x ≡ false) → list_any p xs ≡ false
-  none_among [] none = refl
-  none_among (y ∷ ys) none =
-      let here = none y (grind (arith, nat_tests)) in
-      let rest = none_among ys (λ x among. none x (grind (arith, nat_tests, among))) in
-      grind (arith, here, rest)
-
   pub list_any-flat_map : {X : Type 0} (f : X → List ℕ) (xs : List X) → list_any p (flat_map f xs) ≡ list_any (λ x. list_any p (f x)) xs
   list_any-flat_map f [] = refl
   list_any-flat_map f (x ∷ xs) = list_any-append p (f x) (flat_map f xs) ∙ ap (λ b. list_any p (f x) || b) (list_any-flat_map f xs)
-
-  module _ (uses : FinMap nat_cmp Use) (agrees : Bool) (named : List ℕ) (asks : List Layouts) (index : IsIndex uses agrees named asks) where
-    pub some_named : (x : ℕ) → is_some (map.get uses x) ≡ true → p x ≡ true → true ≡ list_any p named
-    some_named x kept px = sym (any_among named x (sym (index.members x) ∙ kept) px)
-
-    pub none_named : ((x : ℕ) → is_some (map.get uses x) ≡ true → p x ≡ false) → false ≡ list_any p named
-    none_named none = sym (none_among named (λ x among. none x (index.members x ∙ among)))
 
 -- ---- one resource after the other
 

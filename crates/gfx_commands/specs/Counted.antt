@@ -1,9 +1,9 @@
 -- The totals beside the rows.
-use Rattle.std.specs.Prelude.{◌≡◌, ◌≤◌, ◌^◌}
+use Rattle.std.specs.Prelude.{◌≡◌, ◌≤◌}
 use Rattle.std.specs.Ordering.{nat_cmp}
 use Rattle.std.specs.FinMap.{FinMap}
 use Rattle.gfx_commands.specs.declared.recording.Recording.{Recording}
-use Rattle.gfx_commands.specs.declared.recordings.Totals.{Totals}
+use Rattle.gfx_commands.specs.declared.rows.Totals.{Totals}
 use Rattle.gfx_commands.specs.Recordings.{commands_total, bytes_total}
 use Rattle.gfx_model.specs.Limits.{max_kept_bytes, max_kept_commands}
 

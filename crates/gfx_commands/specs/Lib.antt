@@ -1,5 +1,6 @@
 pub mod Recorded
 pub mod Uses
+pub mod Users
 pub mod Commands
 pub mod Inside
 pub mod Recording

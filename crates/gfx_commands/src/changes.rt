@@ -2,7 +2,7 @@
 ghost use Rattle.std.specs.Prelude.{◌≡◌, ◌==◌, if◌then◌else◌};
 ghost use Rattle.gfx_objects.specs.Objects.{answers};
 ghost use Rattle.gfx_commands.specs.Recordings.{buffers};
-ghost use Rattle.gfx_commands.specs.Changes.{pool_reset, user_invalidated, end_of};
+ghost use Rattle.gfx_commands.specs.Changes.{pool_reset, gone_with};
 
 use crate::recordings::Recordings;
 use gfx_objects::Objects;
@@ -34,21 +34,7 @@ impl BufferChange for PoolReset<'_> {
     }
 }
 
-/// Buffers that name a resource become invalid.
-#[derive(Clone, Copy)]
-pub(crate) struct UserInvalidated {
-    pub resource: u64,
-}
-
-impl BufferChange for UserInvalidated {
-    ghost changed = { λ s. user_invalidated s.resource };
-
-    fn make(&self, recordings: &mut Recordings, cb: u64) {
-        recordings.invalidate_user(cb, self.resource);
-    }
-}
-
-/// An object ends.
+/// Buffers that go with an object become as new ones.
 #[derive(Clone, Copy)]
 pub(crate) struct ObjectEnd<'a> {
     pub gone: u64,
@@ -56,9 +42,9 @@ pub(crate) struct ObjectEnd<'a> {
 }
 
 impl BufferChange for ObjectEnd<'_> {
-    ghost changed = { λ s. end_of (answers s.objects.now) s.gone };
+    ghost changed = { λ s. gone_with (answers s.objects.now) s.gone };
 
     fn make(&self, recordings: &mut Recordings, cb: u64) {
-        recordings.end_one(cb, self.gone, self.objects);
+        recordings.reset_if_gone(cb, self.gone, self.objects);
     }
 }

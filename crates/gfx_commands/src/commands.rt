@@ -123,11 +123,4 @@ impl Commands {
     {
         &self.uses
     }
-
-    /// Whether a command names a resource that is lost where `gone` ends.
-    pub(crate) fn names_lost(&self, gone: u64, objects: &Objects) -> bool
-        ensures { result ≡ list_any (λ c. list_any (is_lost (answers objects.now) gone) (resources_of c)) (events_in self.now) }
-    {
-        self.uses.names_lost(gone, objects)
-    }
 }

@@ -8,8 +8,11 @@ mod lost;
 mod recorded;
 mod recording;
 mod recordings;
+mod rows;
+mod users;
 mod uses;
 
 pub use recorded::Recorded;
 pub use recording::CbState;
-pub use recordings::{Recordings, Totals};
+pub use recordings::Recordings;
+pub use rows::Totals;

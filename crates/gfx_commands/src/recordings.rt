@@ -22,57 +22,23 @@ ghost use Rattle.gfx_model.specs.Layouts.{asked_in};
 ghost use Rattle.gfx_model.specs.Limits.{max_kept_bytes, max_kept_commands};
 ghost use Rattle.gfx_commands.specs.Recordings.{buffers, commands_total, bytes_total, HoldsKept};
 
-use crate::changes::{BufferChange, ObjectEnd, PoolReset, UserInvalidated};
+use crate::changes::{BufferChange, ObjectEnd, PoolReset};
 use crate::lost::{is_gone, is_in_pool};
 use crate::recorded::Recorded;
-use crate::recording::{CbState, Recording};
+use crate::recording::CbState;
+use crate::rows::{Rows, Totals};
+use crate::users::Users;
 use crate::uses::Uses;
 use gfx_objects::Objects;
-use gfx_table::Table;
 use gfx_types::{Call, OpList, WantMemory};
 use std::alloc::Global;
 use std::marker::Model;
 
-/// How many commands recording and executable buffers have, and how many bytes the fields of these are.
-#[derive(Clone, Copy, Debug, PartialEq, Eq)]
-pub struct Totals {
-    pub commands: u32,
-    pub bytes: u64,
-}
-
-impl Totals {
-    /// With the commands of a recording.
-    fn with(self, row: &Recording) -> Totals
-        requires few { self.commands + commands_in (buffer_of row.now) < 2 ^ 32 }
-        requires small { self.bytes + bytes_in (buffer_of row.now) < 2 ^ 64 }
-        ensures commands { result.commands ≡ self.commands + commands_in (buffer_of row.now) }
-        ensures bytes { result.bytes ≡ self.bytes + bytes_in (buffer_of row.now) }
-    {
-        Totals {
-            commands: self.commands + row.commands_kept() as u32,
-            bytes: self.bytes + row.bytes_kept(),
-        }
-    }
-
-    /// Without the commands of a recording that was counted.
-    fn without(self, row: &Recording) -> Totals
-        requires commands { commands_in (buffer_of row.now) ≤ self.commands }
-        requires bytes { bytes_in (buffer_of row.now) ≤ self.bytes }
-        ensures commands { result.commands + commands_in (buffer_of row.now) ≡ self.commands }
-        ensures bytes { result.bytes + bytes_in (buffer_of row.now) ≡ self.bytes }
-    {
-        Totals {
-            commands: self.commands - row.commands_kept() as u32,
-            bytes: self.bytes - row.bytes_kept(),
-        }
-    }
-}
-
 /// The state, the flags and the commands of each command buffer. Any other id is as a new buffer.
 #[derive(Drop)]
 pub struct Recordings {
-    rows: Table<Recording>,
-    totals: Totals,
+    rows: Rows,
+    users: Users,
     alloc: Global,
 }
 
@@ -87,11 +53,12 @@ impl Model for Recordings {
 
     ghost coded = { map.code coded_ℕ recording.the_row.coded };
 
-    ghost use Rattle.gfx_commands.specs.Counted.{IsCounted};
+    ghost use Rattle.gfx_commands.specs.Recordings.{buffers};
+    ghost use Rattle.gfx_commands.specs.Users.{AreUsers};
 
-    ghost view = { λ s. s.rows.map };
+    ghost view = { λ s. s.rows };
 
-    ghost invariant = { λ s. IsCounted s.rows.map s.totals };
+    ghost invariant = { λ s. AreUsers s.users.table.map (buffers s.rows) };
 }
 
 impl Recordings {
@@ -100,11 +67,8 @@ impl Recordings {
         ensures { buffers result ≡ (λ x. new_buffer) }
     {
         Recordings {
-            rows: Table::new(alloc),
-            totals: Totals {
-                commands: 0,
-                bytes: 0,
-            },
+            rows: Rows::new(alloc),
+            users: Users::new(alloc),
             alloc,
         }
     }
@@ -149,7 +113,7 @@ impl Recordings {
         ensures few { result.commands ≤ max_kept_commands }
         ensures small { result.bytes ≤ max_kept_bytes }
     {
-        self.totals
+        self.rows.totals()
     }
 
     /// Begins to record: what was recorded before is let go. After want of memory all is as before.
@@ -157,12 +121,8 @@ impl Recordings {
         ensures ok { OnOk result (buffers self.new ≡ (λ x. if cb == x then record { state = State.recording; flags = flags; commands = [] } else buffers self.old x)) }
         ensures err { OnErr result (self.new ≡ self.old) }
     {
-        let Ok(()) = self.rows.reserve(1) else {
-            return Err(WantMemory);
-        };
-        let row = Recording::new(self.alloc, CbState::Recording, flags);
-        if let Some(before) = self.rows.replace(cb, row) {
-            self.totals = self.totals.without(&before);
+        if let Some(before) = self.rows.begin(cb, flags)? {
+            self.users.forget(cb, before.commands.uses());
         }
         Ok(())
     }
@@ -176,10 +136,10 @@ impl Recordings {
         ensures ok { OnOk result (buffers self.new ≡ (λ x. if cb == x then record (buffers self.old x) { commands = (buffers self.old x).commands ++ event_of_call call.now ∷ [] } else buffers self.old x)) }
         ensures err { OnErr result (self.new ≡ self.old) }
     {
-        let mut row = self.take(cb);
-        let added = row.commands.add(self.alloc, call);
-        self.put(cb, row);
-        added
+        self.users.reserve(cb, call)?;
+        self.rows.add(cb, call)?;
+        self.users.insert(cb, call);
+        Ok(())
     }
 
     /// Ends the recording of a recording buffer, which can be executed then.
@@ -187,9 +147,7 @@ impl Recordings {
         requires { IsTrue (is_recording (buffers self.old cb).state) }
         ensures { buffers self.new ≡ (λ x. if cb == x then record (buffers self.old x) { state = State.executable } else buffers self.old x) }
     {
-        let mut row = self.take(cb);
-        row.state = CbState::Executable;
-        self.put(cb, row);
+        self.rows.end(cb);
     }
 
     /// The buffer is as a new one.
@@ -197,7 +155,7 @@ impl Recordings {
         ensures { buffers self.new ≡ (λ x. if cb == x then new_buffer else buffers self.old x) }
     {
         if let Some(before) = self.rows.remove(cb) {
-            self.totals = self.totals.without(&before);
+            self.users.forget(cb, before.commands.uses());
         }
     }
 
@@ -209,7 +167,7 @@ impl Recordings {
             return;
         };
         if row.is_once() {
-            self.invalidate(cb);
+            self.rows.invalidate(cb);
         }
     }
 
@@ -217,14 +175,16 @@ impl Recordings {
     pub fn reset_pool(&mut self, pool: u64, objects: &Objects)
         ensures { buffers self.new ≡ (λ x. if passes (is_in_pool pool) ((answers objects.now).live x) then new_buffer else buffers self.old x) }
     {
-        self.each(&PoolReset { pool, objects });
+        if objects.children(pool) > 0 {
+            self.each(&PoolReset { pool, objects });
+        }
     }
 
     /// Recording and executable buffers that name the resource become invalid.
     pub fn invalidate_users(&mut self, resource: u64)
         ensures { buffers self.new ≡ (λ x. invalidated (names resource (buffers self.old x)) (buffers self.old x)) }
     {
-        self.each(&UserInvalidated { resource });
+        self.rows.invalidate_users(&self.users, resource);
     }
 
     /// What the end of an object makes of all buffers: those that go with it are as new ones, and those that name a
@@ -232,7 +192,8 @@ impl Recordings {
     pub fn end_object(&mut self, gone: u64, objects: &Objects)
         ensures { buffers self.new ≡ (λ x. if is_gone (answers objects.now) gone x then new_buffer else buffer_after_end (answers objects.now) gone (buffers self.old x)) }
     {
-        self.each(&ObjectEnd { gone, objects });
+        self.rows.invalidate_lost(&self.users, gone, objects);
+        self.reset_gone(gone, objects);
     }
 
     /// Appends what the commands of a buffer do to a list of operations. Each of them breaks no check of its row but
@@ -283,7 +244,7 @@ impl Recordings {
     fn next(&self, after: u64) -> Option<u64>
         ensures { result ≡ least_above self.now after }
     {
-        self.rows.next_above(after)
+        self.rows.next(after)
     }
 
     // The buffer is as a new one, where it is of the pool.
@@ -295,88 +256,23 @@ impl Recordings {
         }
     }
 
-    // A buffer that names the resource becomes invalid.
-    pub(crate) fn invalidate_user(&mut self, cb: u64, resource: u64)
-        ensures { buffers self.new ≡ (λ x. if cb == x then invalidated (names resource (buffers self.old x)) (buffers self.old x) else buffers self.old x) }
+    // Buffers that go with an object are as new ones.
+    fn reset_gone(&mut self, gone: u64, objects: &Objects)
+        ensures { buffers self.new ≡ (λ x. if is_gone (answers objects.now) gone x then new_buffer else buffers self.old x) }
     {
-        if self.names(cb, resource) {
-            self.invalidate(cb);
+        if objects.children(gone) > 0 {
+            self.each(&ObjectEnd { gone, objects });
+        } else {
+            self.reset_if_gone(gone, gone, objects);
         }
     }
 
-    // Whether a command of the buffer names the resource.
-    fn names(&self, cb: u64, resource: u64) -> bool
-        ensures names { result ≡ names resource (buffers self.now cb) }
-        ensures kept { result ≡ true → IsSome (map.get self.now cb) }
-    {
-        match self.rows.get(cb) {
-            Some(row) => row.commands.uses().names(resource),
-            None => false,
-        }
-    }
-
-    // What the end of an object makes of the buffer.
-    pub(crate) fn end_one(&mut self, cb: u64, gone: u64, objects: &Objects)
-        ensures { buffers self.new ≡ (λ x. if cb == x then (if is_gone (answers objects.now) gone x then new_buffer else buffer_after_end (answers objects.now) gone (buffers self.old x)) else buffers self.old x) }
+    // A buffer that goes with an object is as a new one.
+    pub(crate) fn reset_if_gone(&mut self, cb: u64, gone: u64, objects: &Objects)
+        ensures { buffers self.new ≡ (λ x. if cb == x then (if is_gone (answers objects.now) gone x then new_buffer else buffers self.old x) else buffers self.old x) }
     {
         if is_gone(objects, gone, cb) {
             self.reset(cb);
-        } else if self.names_lost(cb, gone, objects) {
-            self.invalidate(cb);
         }
-    }
-
-    // Whether a command of the buffer names a resource that is lost.
-    fn names_lost(&self, cb: u64, gone: u64, objects: &Objects) -> bool
-        ensures names { result ≡ list_any (λ c. list_any (is_lost (answers objects.now) gone) (resources_of c)) (buffers self.now cb).commands }
-        ensures kept { result ≡ true → IsSome (map.get self.now cb) }
-    {
-        match self.rows.get(cb) {
-            Some(row) => row.commands.names_lost(gone, objects),
-            None => false,
-        }
-    }
-
-    // A recording or executable buffer becomes invalid.
-    fn invalidate(&mut self, cb: u64)
-        requires { IsSome (map.get self.old cb) }
-        ensures { buffers self.new ≡ (λ x. if cb == x then invalidated true (buffers self.old x) else buffers self.old x) }
-    {
-        let mut row = self.take(cb);
-        row.invalidate();
-        self.put(cb, row);
-    }
-
-    // Takes out what is kept of a buffer. A new recording, which counts nothing, stands in its place until it is put back.
-    fn take(&mut self, cb: u64) -> Recording
-        requires { IsSome (map.get self.old cb) }
-        ensures value { map.get self.old cb ≡ Some result }
-        ensures still { IsSome (map.get self.new cb) }
-        ensures others { (row : Recording) → map.insert self.new cb row ≡ map.insert self.old cb row }
-        ensures commands { commands_total self.new + commands_in (buffer_of result) ≡ commands_total self.old }
-        ensures bytes { bytes_total self.new + bytes_in (buffer_of result) ≡ bytes_total self.old }
-        ensures few { commands_total self.old ≤ max_kept_commands }
-        ensures small { bytes_total self.old ≤ max_kept_bytes }
-    {
-        let none = Recording::new(self.alloc, CbState::Initial, 0);
-        let Some(row) = self.rows.replace(cb, none) else {
-            unreachable!()
-        };
-        self.totals = self.totals.without(&row);
-        row
-    }
-
-    // Puts a recording in the place of what was kept of a buffer.
-    fn put(&mut self, cb: u64, row: Recording)
-        requires kept { IsSome (map.get self.old cb) }
-        requires few { commands_total self.old + commands_in (buffer_of row) ≤ max_kept_commands }
-        requires small { bytes_total self.old + bytes_in (buffer_of row) ≤ max_kept_bytes }
-        ensures { self.new ≡ map.insert self.old cb row }
-    {
-        let totals = self.totals.with(&row);
-        let Some(before) = self.rows.replace(cb, row) else {
-            unreachable!()
-        };
-        self.totals = totals.without(&before);
     }
 }

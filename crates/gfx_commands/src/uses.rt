@@ -1,5 +1,5 @@
 //! What the commands of a buffer ask of each resource that they name.
-ghost use Rattle.std.specs.Prelude.{◌≡◌, ◌+◌, ◌≤◌, ◌++◌, ◌∷◌, [], ℕ, List, true, length, map, is_some, OnOk};
+ghost use Rattle.std.specs.Prelude.{◌≡◌, ◌+◌, ◌≤◌, ◌++◌, ◌∷◌, [], ℕ, List, true, length, map, is_some, slice_get, OnOk};
 ghost use Rattle.std.specs.List.{list_any};
 ghost use Rattle.std.specs.FinMap as finmap;
 ghost use Rattle.gfx_table.specs.Slots.{least_above};
@@ -226,23 +226,6 @@ impl Uses {
     {
         self.table.get(id).is_some()
     }
-
-    /// Whether a resource is lost where `gone` ends.
-    pub(crate) fn names_lost(&self, gone: u64, objects: &Objects) -> bool
-        ensures { (named : List ℕ) (asks : List Layouts) → IsIndex self.now.table.map self.now.agrees named asks → result ≡ list_any (is_lost (answers objects.now) gone) named }
-    {
-        if self.names(0) && is_lost(objects, gone, 0) {
-            return true;
-        }
-        let mut after = 0;
-        'ids: while let Some(id) = self.next(after) {
-            if is_lost(objects, gone, id) {
-                return true;
-            }
-            after = id;
-        }
-        false
-    }
 }
 
 /// How many resources the command names.
@@ -260,5 +243,26 @@ pub(crate) fn resources_in(call: &Call<'_>) -> usize
         | Call::CmdCopyBufferToImage { .. }
         | Call::CmdCopyImageToBuffer { .. } => 2,
         _ => 0,
+    }
+}
+
+/// The resource at a place of those that the command names.
+#[tactic(auto, unfolding(gfx_model::specs::Steps::resources_of))]
+pub(crate) fn resource_at(call: &Call<'_>, at: usize) -> Option<u64>
+    ensures { result ≡ slice_get (resources_of (event_of_call call.now)) at }
+{
+    match call {
+        Call::CmdPipelineBarrier { barriers, .. } => barriers.items().get(at).map(|b| b.image),
+        Call::CmdFillBuffer { buffer, .. } | Call::CmdUpdateBuffer { buffer, .. } => {
+            [*buffer].get(at).copied()
+        }
+        Call::CmdClearColorImage { image, .. } => [*image].get(at).copied(),
+        Call::CmdCopyBuffer { source, target, .. }
+        | Call::CmdCopyImage { source, target, .. }
+        | Call::CmdCopyBufferToImage { source, target, .. }
+        | Call::CmdCopyImageToBuffer { source, target, .. } => {
+            [*source, *target].get(at).copied()
+        }
+        _ => None,
     }
 }

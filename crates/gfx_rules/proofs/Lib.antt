@@ -1,6 +1,7 @@
 pub mod Sizes
 pub mod Joined
 pub mod New
+pub mod Counted
 pub mod Fetched
 pub mod Signals
 pub mod Executed

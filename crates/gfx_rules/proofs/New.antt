@@ -41,11 +41,20 @@ passes v ids i all h e left = ap (λ x. first x (new_faults v (behind ids (i + 1
 other : (x y : ℕ) → y < x → (y == x) ≡ false
 other x y h = grind (arith, nat_tests)
 
+higher : (x y : ℕ) → x < y → (y == x) ≡ false
+higher x y h = grind (arith, nat_tests)
+
 -- no id before a place is above m, where none before the last is and the last isn't either
 pub above_more : (ids : List ℕ) (i g m : ℕ) → i < length ids → ((x : ℕ) → g < x → is_among x (take i ids) ≡ false)
     → g ≤ m → get_or ids i 0 ≤ m → (x : ℕ) → m < x → is_among x (take (i + 1) ids) ≡ false
 above_more ids i g m h above a b x lt =
     list_any_more (λ y. y == x) ids i 0 h ∙ ap (λ t. t || (get_or ids i 0 == x)) (above x (omega arith)) ∙ other x (get_or ids i 0) (omega arith)
+
+-- nor below m, where none before the last is and the last isn't either
+pub below_more : (ids : List ℕ) (i l m : ℕ) → i < length ids → ((x : ℕ) → x < l → is_among x (take i ids) ≡ false)
+    → m ≤ l → m ≤ get_or ids i 0 → (x : ℕ) → x < m → is_among x (take (i + 1) ids) ≡ false
+below_more ids i l m h below a b x lt =
+    list_any_more (λ y. y == x) ids i 0 h ∙ ap (λ t. t || (get_or ids i 0 == x)) (below x (omega arith)) ∙ higher x (get_or ids i 0) (omega arith)
 
 -- the checks of new ids
 pub news : (v : View) (earlier ids : List ℕ) → first_broken v (new_each earlier ids) ≡ new_faults v earlier ids

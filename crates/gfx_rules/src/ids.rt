@@ -1,10 +1,11 @@
 //! Ids of objects that a call makes, and ids that stand in a list of a call.
 
-ghost use Rattle.std.specs.Prelude.{◌≡◌, ◌<◌, false, List, ℕ, []};
+ghost use Rattle.std.specs.Prelude.{◌≡◌, ◌<◌, true, false, List, ℕ, []};
 ghost use Rattle.gfx_model.specs.Views as views;
 ghost use Rattle.gfx_model.specs.Checks as words;
 
 use crate::answers::Answers;
+use crate::apart::stand_apart;
 use crate::checks::{first, unless};
 use gfx_types::Fault;
 use gfx_types::limits::MAX_LIVE_OBJECTS;
@@ -16,12 +17,15 @@ pub fn is_among(ids: &[u64], id: u64) -> bool
     ids.iter().any(|x| *x == id)
 }
 
-/// Whether an id stands in a list whose greatest number is known, or a greater one.
-pub fn is_among_least(ids: &[u64], greatest: u64, id: u64) -> bool
-    requires { (x : ℕ) → greatest < x → words.is_among x ids.now ≡ false }
+/// Whether an id stands in a list all of whose numbers lie between two. Where it is known that it doesn't, no number is
+/// looked at.
+pub fn is_among_between(ids: &[u64], is_apart: bool, least: u64, greatest: u64, id: u64) -> bool
+    requires apart { is_apart ≡ true → words.is_among id ids.now ≡ false }
+    requires above { (x : ℕ) → greatest < x → words.is_among x ids.now ≡ false }
+    requires below { (x : ℕ) → x < least → words.is_among x ids.now ≡ false }
     ensures { result ≡ words.is_among id ids.now }
 {
-    if greatest < id {
+    if is_apart || greatest < id || id < least {
         false
     } else {
         is_among(ids, id)
@@ -65,16 +69,19 @@ pub fn queue_fault<A: Answers>(answers: &A, device: u64, queue: u64) -> Option<F
     }
 }
 
-/// The fault of the first id that is not new. Rising ids take linear time.
+/// The fault of the first id that is not new. It takes n log n for ids in any order that stand once.
 pub fn new_faults<A: Answers>(answers: &A, ids: &[u64]) -> Option<Fault>
     ensures { result ≡ words.new_faults (A.view answers.now) [] ids.now }
 {
+    let apart = stand_apart(ids);
+    let mut least = u64::MAX;
     let mut greatest = 0;
     'ids: for (at, id) in ids.iter().enumerate() {
-        let is_earlier = is_among_least(&ids[..at], greatest, *id);
+        let is_earlier = is_among_between(&ids[..at], apart, least, greatest, *id);
         if let Some(fault) = new_fault_behind(answers, *id, is_earlier) {
             return Some(fault);
         }
+        least = least.min(*id);
         greatest = greatest.max(*id);
     }
     None

@@ -2,6 +2,7 @@
 #![tactic(auto)]
 
 mod answers;
+mod apart;
 mod broken;
 mod calls;
 mod checks;

@@ -7,9 +7,10 @@ ghost use Rattle.gfx_model.specs.Table as table;
 ghost use Rattle.gfx_model.specs.Checks as words;
 
 use crate::answers::Answers;
+use crate::apart::stand_apart;
 use crate::broken::{broken, first_broken};
 use crate::checks::{Check, first};
-use crate::ids::is_among_least;
+use crate::ids::is_among_between;
 use gfx_types::{Fault, Kind};
 
 /// The fault of the first id that is not live.
@@ -69,16 +70,19 @@ fn once_fault<A: Answers>(answers: &A, id: u64, is_earlier: bool) -> Option<Faul
     )
 }
 
-/// The fault of the first id that is no live command buffer, or stands twice. Rising ids take linear time.
+/// The fault of the first id that is no live command buffer, or stands twice. It takes n log n for ids in any order that stand once.
 pub fn live_once<A: Answers>(answers: &A, ids: &[u64]) -> Option<Fault>
     ensures { result ≡ words.first_broken (A.view answers.now) (table.live_once kind.CommandBuffer [] ids.now) }
 {
+    let apart = stand_apart(ids);
+    let mut least = u64::MAX;
     let mut greatest = 0;
     'ids: for (at, id) in ids.iter().enumerate() {
-        let is_earlier = is_among_least(&ids[..at], greatest, *id);
+        let is_earlier = is_among_between(&ids[..at], apart, least, greatest, *id);
         if let Some(fault) = once_fault(answers, *id, is_earlier) {
             return Some(fault);
         }
+        least = least.min(*id);
         greatest = greatest.max(*id);
     }
     None

@@ -1,16 +1,10 @@
-use Rattle.std.proofs.Common.{ap, sym, ◌∙◌, arith}
-use Rattle.gfx_commands.specs.Recordings.{commands_total, bytes_total}
-use Rattle.gfx_commands.proofs.Counting.{no_commands, no_bytes}
+use Rattle.gfx_commands.specs.Recordings.{buffers}
 use Rattle.gfx_commands.proofs.Buffers.{no_buffers}
+use Rattle.gfx_commands.proofs.Indexed.{none_named}
 use Rattle.gfx_commands.proofs.recordings.Recordings.new.Goals as goal
 
 pub invariant_of-result : goal.invariant_of-result
-invariant_of-result c = record {
-  commands = sym (ap commands_total c.new.ensures ∙ no_commands);
-  bytes = sym (ap bytes_total c.new.ensures ∙ no_bytes);
-  few = omega arith;
-  small = omega arith;
-}
+invariant_of-result c = none_named c.new-2.result.table.map (buffers c.new.result) c.new-2.ensures (no_buffers c.new.result c.new.ensures)
 
 pub returns : goal.returns
-returns c = no_buffers c.new.result.map c.new.ensures
+returns c = no_buffers c.new.result c.new.ensures

@@ -1,51 +1,19 @@
-use Rattle.std.proofs.Common.{◌≡◌, None, ap, sym, ◌∙◌, arith}
-use Rattle.std.specs.FinMap as map
-use Rattle.gfx_commands.specs.Recordings.{commands_total, bytes_total}
-use Rattle.gfx_commands.proofs.Counting.{commands_removed, bytes_removed, commands_part, bytes_part, nothing_removed}
-use Rattle.gfx_commands.proofs.Buffers.{taken_out}
+use Rattle.std.proofs.Common.{refl, sym}
+use Rattle.gfx_commands.specs.Recordings.{buffers}
+use Rattle.gfx_commands.proofs.Indexed.{forgotten, none_forgotten, nothing_named, named_in_uses}
 use Rattle.gfx_commands.proofs.recordings.Recordings.reset.Goals as goal
 
-pub without-self-inside-requires-clause-commands : goal.without-self-inside-requires-clause-commands
-without-self-inside-requires-clause-commands c =
-    let part = commands_part c.self.inside.rows.map c.args.cb c.in-Some.before (sym c.in-Some.ensures.value) in
-    let all = c.self.invariant.commands in
-    omega (arith, part, all)
-
-pub without-self-inside-requires-clause-bytes : goal.without-self-inside-requires-clause-bytes
-without-self-inside-requires-clause-bytes c =
-    let part = bytes_part c.self.inside.rows.map c.args.cb c.in-Some.before (sym c.in-Some.ensures.value) in
-    let all = c.self.invariant.bytes in
-    omega (arith, part, all)
+pub forget-requires : goal.forget-requires
+forget-requires c =
+    named_in_uses c.self.inside.rows c.args.cb c.in-Some.before (sym c.in-Some.ensures.value) c.self.inside.users.table.map c.self.invariant
+    c.uses.result.now.table.map c.uses.ensures.members
 
 pub invariant_of-self : goal.invariant_of-self
 invariant_of-self c =
-    let m = c.self.inside.rows.map in
-    let commands = commands_removed m c.args.cb c.in-Some.before (sym c.in-Some.ensures.value) c.remove.new.self.map c.in-Some.ensures.map in
-    let bytes = bytes_removed m c.args.cb c.in-Some.before (sym c.in-Some.ensures.value) c.remove.new.self.map c.in-Some.ensures.map in
-    let old = c.self.invariant in
-    let a = c.without-self-inside.ensures.commands in
-    let b = c.without-self-inside.ensures.bytes in
-    record {
-      commands = let o = old.commands in omega (arith, commands, o, a);
-      bytes = let o = old.bytes in omega (arith, bytes, o, b);
-      few = let o = old.few in omega (arith, o, a);
-      small = let o = old.small in omega (arith, o, b);
-    }
+    forgotten c.self.inside.users.table.map c.forget.new.self.table.map (buffers c.self.inside.rows) (buffers c.remove.new.self) c.self.invariant c.args.cb
+    _ (λ r. refl) c.in-Some.ensures.buffers c.forget.ensures
 
 pub invariant_of-self-in_default : goal.invariant_of-self-in_default
 invariant_of-self-in_default c =
-    let none : map.get c.self.inside.rows.map c.args.cb ≡ None = sym c.in_default.ensures.value in
-    let same = nothing_removed c.self.inside.rows.map c.args.cb none c.remove.new.self.map c.in_default.ensures.map in
-    let old = c.self.invariant in
-    record {
-      commands = old.commands ∙ sym (ap commands_total same);
-      bytes = old.bytes ∙ sym (ap bytes_total same);
-      few = old.few;
-      small = old.small;
-    }
-
-pub returns-in-Some : goal.returns-in-Some
-returns-in-Some c = taken_out c.args.self.now c.remove.new.self.map c.args.cb (c.in-Some.ensures.map ∙ ap (λ m. map.remove m c.args.cb) c.self.view_is)
-
-pub returns-in_default : goal.returns-in_default
-returns-in_default c = taken_out c.args.self.now c.remove.new.self.map c.args.cb (c.in_default.ensures.map ∙ ap (λ m. map.remove m c.args.cb) c.self.view_is)
+    none_forgotten c.self.inside.users.table.map c.self.inside.users.table.map (buffers c.self.inside.rows) (buffers c.remove.new.self) c.self.invariant c.args.cb
+    _ (λ r. refl) c.in_default.ensures.buffers (nothing_named c.self.inside.rows c.args.cb (sym c.in_default.ensures.value))
