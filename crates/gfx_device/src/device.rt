@@ -84,6 +84,18 @@ impl Device {
         bytes.read_into(at, into);
     }
 
+    /// A place's bytes, in pages that are shared until they are written.
+    pub fn share(&self, handle: Handle) -> Result<Bytes, WantMemory>
+        requires { IsSome (places self.now handle) }
+        ensures { IfOk result (λ bytes. Some bytes ≡ places self.now handle) }
+    {
+        let bytes = &self.places[handle.key];
+        match bytes.share() {
+            Ok(copy) => Ok(copy),
+            Err(_) => Err(WantMemory),
+        }
+    }
+
     /// Carries out one op. `given` is what a `PutGiven` puts. After an error only the bytes of the target are not known.
     pub fn run(&mut self, op: &DeviceOp, given: &[u8]) -> Result<(), WantMemory>
         requires { IsWithin (places self.old) given.now op.now }

@@ -1,5 +1,5 @@
 -- What payloads that lie in bytes say.
-use Rattle.std.specs.Prelude.{◌≡◌, ◌+◌, ◌≤◌, ℕ, List, ◌∷◌, ◌++◌, length, Option, Some, None, IsSome, ⊤}
+use Rattle.std.specs.Prelude.{◌≡◌, ◌+◌, ◌≤◌, ℕ, List, ◌∷◌, ◌++◌, length, Option, None, IsSome, ⊤}
 use Rattle.std.specs.List.{All, slice_range}
 use Rattle.gfx_model.specs.Blocks.{Content}
 use Rattle.gfx_grammar.specs.Rows.{read_content}

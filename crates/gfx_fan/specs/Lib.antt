@@ -1,1 +1,5 @@
 pub mod Decoded
+pub mod Gathered
+pub mod Groups
+pub mod Kept
+pub mod Walked

@@ -102,27 +102,27 @@ read_more old new fed raw file left rest r here goes minor gives reads = record 
 valid_of : (p : Player) (fed : List Whole) → HasReplayed p fed → is_valid (history_of fed) ≡ true
 valid_of p fed r = r.replays.stands.valid
 
-pub read_stops : (p : Player) (fed : List Whole) (why : DecodeFault) (file left rest : Option (List ℕ)) → HasReplayed p fed → HasRead p fed file left → IfTold left rest (Gives p.decoder (Err why)) →
+pub read_stops : (p : Player) (fed : List Whole) (why : DecodeFault) (file left rest : Option (List ℕ)) → is_valid (history_of fed) ≡ true → HasRead p fed file left → IfTold left rest (Gives p.decoder (Err why)) →
     ((minor : ℕ) (at : Position) → p.decoder ≡ At minor at → StopsAt minor at left rest why) → IfTold file rest (StopsBehind fed (of_decoder why))
-read_stops p fed (decoder.Bad fault block offset) file left rest done r gives stops =
+read_stops p fed (decoder.Bad fault block offset) file left rest valid r gives stops =
     told_through file left rest _ (Gives p.decoder (Err (decoder.Bad fault block offset))) (StopsBehind fed (play.Bad fault block offset)) r.told gives
     (λ all left rest was is. record {
       begins = fed_begins fed p.decoder all left was.0;
-      stops = judged_end fed all (bad fault block offset) (valid_of p fed done) (fed_blocks fed p.decoder all left was.0 ∙ ap (with_items fed) is);
+      stops = judged_end fed all (bad fault block offset) valid (fed_blocks fed p.decoder all left was.0 ∙ ap (with_items fed) is);
     })
-read_stops p fed decoder.ReadFault file left rest done r gives stops =
+read_stops p fed decoder.ReadFault file left rest valid r gives stops =
     told_through file left rest _ (GivesNone p.decoder) (StopsBehind fed play.ReadFault) r.told (told_stop (length fed) p.decoder left rest (Gives p.decoder (Err decoder.ReadFault)) r.place gives stops)
     (λ all left rest was none. record { begins = fed_begins fed p.decoder all left was.0; stops = stops_behind fed p.decoder all left rest was.0 none })
-read_stops p fed decoder.WantMemory file left rest done r gives stops =
+read_stops p fed decoder.WantMemory file left rest valid r gives stops =
     told_through file left rest _ (Gives p.decoder (Err decoder.WantMemory)) (StopsBehind fed play.WantMemory) r.told gives
     (λ all left rest was is. record { begins = fed_begins fed p.decoder all left was.0; stops = tt })
 
-pub read_ends : (p : Player) (fed : List Whole) (file left rest : Option (List ℕ)) → HasReplayed p fed → HasRead p fed file left → IfTold left rest (Gives p.decoder (Ok None)) → IsAtEnd rest →
+pub read_ends : (p : Player) (fed : List Whole) (file left rest : Option (List ℕ)) → is_valid (history_of fed) ≡ true → HasRead p fed file left → IfTold left rest (Gives p.decoder (Ok None)) → IsAtEnd rest →
     IfTold file rest (λ all rest. EndsBehind fed clean all × (rest ≡ []))
-read_ends p fed file left rest done r gives ends =
+read_ends p fed file left rest valid r gives ends =
     told_through file left rest _ (λ left rest. Gives p.decoder (Ok None) left rest × (rest ≡ [])) (λ all rest. EndsBehind fed clean all × (rest ≡ [])) r.told
     (told_end left rest (Gives p.decoder (Ok None)) gives ends)
-    (λ all left rest was none. (judged_end fed all clean (valid_of p fed done) (fed_blocks fed p.decoder all left was.0 ∙ ap (with_items fed) none.0), none.1))
+    (λ all left rest was none. (judged_end fed all clean valid (fed_blocks fed p.decoder all left was.0 ∙ ap (with_items fed) none.0), none.1))
 
 -- ---- a block that is replayed
 
@@ -196,21 +196,21 @@ read_alike old new fed file left same r = record {
       (λ all rest was. (subst (λ s. IsFed fed s all rest) (sym same.decoder) was.0, same.minor ∙ was.1));
 }
 
-pub refused_stops : (old new : Player) (fed : List Whole) (w : Whole) (why : PlayFault) (file left : Option (List ℕ)) → HasReplayed old fed → HasRead new (fed ++ w ∷ []) file left →
+pub refused_stops : (new : Player) (fed : List Whole) (w : Whole) (why : PlayFault) (file left : Option (List ℕ)) → is_valid (history_of fed) ≡ true → HasRead new (fed ++ w ∷ []) file left →
     IsReplayFault why → Refuses (history_of fed) w why → IfTold file left (StopsBehind fed why)
-refused_stops old new fed w (play.Bad fault block offset) file left done r kind refuses =
+refused_stops new fed w (play.Bad fault block offset) file left valid r kind refuses =
     told_if file left _ (StopsBehind fed (play.Bad fault block offset)) r.told
     (λ all rest was.
     let is = fed_with fed w new.decoder all rest was.0 in
-    let end : EndsBehind fed (bad fault w.number w.offset) all = judged_fault fed w (coming new.decoder rest) all fault (valid_of old fed done) is refuses.2 in
+    let end : EndsBehind fed (bad fault w.number w.offset) all = judged_fault fed w (coming new.decoder rest) all fault valid is refuses.2 in
     record {
       begins = record { later = with_item w (coming new.decoder rest); is = is };
       stops = subst (λ n. EndsBehind fed (bad fault n offset) all) (sym refuses.0) (subst (λ n. EndsBehind fed (bad fault w.number n) all) (sym refuses.1) end);
     })
-refused_stops old new fed w (play.NoSuchFrame first last) file left done r kind refuses = absurd kind
-refused_stops old new fed w play.ReadFault file left done r kind refuses = absurd kind
-refused_stops old new fed w play.SinkFault file left done r kind refuses = absurd kind
-refused_stops old new fed w play.WantMemory file left done r kind refuses =
+refused_stops new fed w (play.NoSuchFrame first last) file left valid r kind refuses = absurd kind
+refused_stops new fed w play.ReadFault file left valid r kind refuses = absurd kind
+refused_stops new fed w play.SinkFault file left valid r kind refuses = absurd kind
+refused_stops new fed w play.WantMemory file left valid r kind refuses =
     told_if file left _ (StopsBehind fed play.WantMemory) r.told
     (λ all rest was. record { begins = record { later = with_item w (coming new.decoder rest); is = fed_with fed w new.decoder all rest was.0 }; stops = tt })
 
@@ -372,6 +372,6 @@ ok_same None is = refl
 ok_same (Some raw) is = absurd cc
 
 pub next_none : (p : Player) (found : Option Raw) (left rest : Option (List ℕ)) → ok_of found ≡ Ok None → IfTold left rest (Gives p.decoder (Ok found)) → IsAtEnd rest → (fed : List Whole) (file : Option (List ℕ)) →
-    HasReplayed p fed → HasRead p fed file left → IfTold file rest (λ all rest. EndsBehind fed clean all × (rest ≡ []))
-next_none p None left rest is gives ends fed file done r = read_ends p fed file left rest done r gives ends
-next_none p (Some raw) left rest is gives ends fed file done r = absurd cc
+    is_valid (history_of fed) ≡ true → HasRead p fed file left → IfTold file rest (λ all rest. EndsBehind fed clean all × (rest ≡ []))
+next_none p None left rest is gives ends fed file valid r = read_ends p fed file left rest valid r gives ends
+next_none p (Some raw) left rest is gives ends fed file valid r = absurd cc

@@ -1,5 +1,5 @@
 //! A walk through a capture file.
-ghost use Rattle.std.specs.Prelude.{◌≡◌, ◌≤◌, ◌<◌, ◌+◌, ◌-◌, ◌^◌, ◌∷◌, ◌++◌, ℕ, List, [], length, IfOk, IfErr, IfSome, Some, None, Ok, Err};
+ghost use Rattle.std.specs.Prelude.{◌≡◌, ◌≤◌, ◌<◌, ◌+◌, ◌-◌, ◌^◌, ◌∷◌, ◌++◌, ℕ, List, [], true, length, IfOk, IfErr, IfSome, Some, None, Ok, Err};
 ghost use Rattle.std.specs.declared.option.Option.{Option as Maybe};
 ghost use Rattle.std.specs.Io.KnownBytes.{Consumes, IsAtEnd};
 ghost use Rattle.gfx_io.specs.Causes.{Rose};
@@ -8,6 +8,7 @@ ghost use Rattle.gfx_types.specs.declared.names.Fault.{Fault as FileFault};
 ghost use Rattle.gfx_types.specs.declared.frame.Frame.{Frame};
 ghost use Rattle.gfx_model.specs.Blocks.{Position, Whole};
 ghost use Rattle.gfx_model.specs.Blocks.End.{clean};
+ghost use Rattle.gfx_model.specs.History.{is_valid};
 ghost use Rattle.gfx_model.specs.Meaning.{content_fault};
 ghost use Rattle.gfx_decode.specs.Decoding.{Gives, GoesFramed, IsFramedAt, item_of};
 ghost use Rattle.gfx_decode.specs.Reading.{ReadsSome, StopsAt};
@@ -59,7 +60,8 @@ impl Player {
         })
     }
 
-    /// Reads the next block, lent from the buffer, or finds the clean end of the file. The block isn't replayed yet.
+    /// Reads the next block, lent from the buffer, or finds the clean end of the file. The block isn't replayed yet. Where the
+    /// blocks before it have no fault, the file ends so, whether they were replayed or not.
     pub fn next<'b, S: Source>(
         &mut self,
         source: &mut S,
@@ -69,9 +71,9 @@ impl Player {
         ensures some { IfOk result (λ found. IfSome found (λ raw. (fed : List Whole) → (file : Maybe (List ℕ)) → HasRead self.old fed file (S.left source.old)
             → HasRead self.new (fed ++ item_of raw ∷ []) file (S.left source.new))) }
         ensures few { IfOk result (λ found. IfSome found (λ raw. (fed : List Whole) → (file : Maybe (List ℕ)) → HasRead self.old fed file (S.left source.old) → length fed ≤ 2 ^ 33)) }
-        ensures none { result ≡ Ok None → (fed : List Whole) → (file : Maybe (List ℕ)) → HasReplayed self.old fed → HasRead self.old fed file (S.left source.old)
+        ensures none { result ≡ Ok None → (fed : List Whole) → (file : Maybe (List ℕ)) → is_valid (history_of fed) ≡ true → HasRead self.old fed file (S.left source.old)
             → IfTold file (S.left source.new) (λ bytes left. EndsBehind fed clean bytes × (left ≡ [])) }
-        ensures err { IfErr result (λ why. (fed : List Whole) → (file : Maybe (List ℕ)) → HasReplayed self.old fed → HasRead self.old fed file (S.left source.old)
+        ensures err { IfErr result (λ why. (fed : List Whole) → (file : Maybe (List ℕ)) → is_valid (history_of fed) ≡ true → HasRead self.old fed file (S.left source.old)
             → IfTold file (S.left source.new) (StopsBehind fed why)) }
         ensures kind { IfErr result IsWalkFault }
         ensures kept { IsReplayedAlike self.old self.new }

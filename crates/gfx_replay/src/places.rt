@@ -1,5 +1,5 @@
 //! The bytes of all places of a replay.
-ghost use Rattle.std.specs.Prelude.{◌≡◌, List, [], ◌∷◌, ℕ, false, Some, None, IsSome, OnOk, OnErr, flat_map, length, replicate};
+ghost use Rattle.std.specs.Prelude.{◌≡◌, List, [], ◌∷◌, ℕ, false, Some, None, IsSome, IfOk, OnOk, OnErr, flat_map, length, replicate};
 ghost use Rattle.std.specs.Option.{option_map};
 ghost use Rattle.gfx_device.specs.Places.{places};
 ghost use Rattle.gfx_replay.specs.Maps.{IsSame, IsSet, IsNextImage};
@@ -7,7 +7,7 @@ ghost use Rattle.gfx_replay.specs.Handles.{handle_of, IsSound};
 
 use crate::id_map::IdMap;
 use gfx_device::{Device, DeviceOp, Handle, StateBytes};
-use gfx_pages::Span;
+use gfx_pages::{Bytes, Span};
 use gfx_types::{Op, OpList, Place, WantMemory};
 use std::alloc::Global;
 
@@ -131,6 +131,14 @@ impl Places {
             self.run(op, given)?;
         }
         Ok(())
+    }
+
+    /// The bytes of a place, in pages that are shared until they are written.
+    pub fn share(&self, place: Place) -> Result<Bytes, WantMemory>
+        requires { IsSome (bytes_in self.now place) }
+        ensures { IfOk result (λ bytes. Some bytes ≡ bytes_in self.now place) }
+    {
+        self.device.share(self.handle(place))
     }
 
     // Writes a piece into a place.

@@ -1,5 +1,5 @@
 //! The replay of a capture, block by block.
-ghost use Rattle.std.specs.Prelude.{◌≡◌, List, [], ◌∷◌, true, false, None, Err, IfOk};
+ghost use Rattle.std.specs.Prelude.{◌≡◌, List, [], ◌∷◌, true, false, None, Some, Err, IfOk, IsSome};
 ghost use Rattle.gfx_model.specs.Events.{Event, event_of};
 ghost use Rattle.gfx_model.specs.Checks.{first_broken};
 ghost use Rattle.gfx_model.specs.Table.{checks_of};
@@ -17,7 +17,7 @@ use crate::present::shown_frame;
 use crate::shown::ShownFrame;
 use crate::updates::update;
 use gfx_device::StateBytes;
-use gfx_pages::Span;
+use gfx_pages::{Bytes, Span};
 use gfx_tracker::Tracker;
 use gfx_types::{Block, Effect, Fault, Meta, OpList, Place, WantMemory};
 use std::alloc::Global;
@@ -34,7 +34,7 @@ pub struct Replayer {
 }
 
 impl Replayer {
-    ghost use Rattle.gfx_replay.specs.Replayer.{StandsFor, IsFed};
+    ghost use Rattle.gfx_replay.specs.Replayer.{StandsFor, IsFed, bytes_of};
 
     /// Stands for the capture without blocks.
     pub fn new(alloc: Global) -> Replayer
@@ -72,6 +72,14 @@ impl Replayer {
         ensures { result.now ≡ self.now.tracker }
     {
         &self.tracker
+    }
+
+    /// The bytes of a place, in pages that are shared until the next blocks write there.
+    pub fn share(&self, place: Place) -> Result<Bytes, WantMemory>
+        requires { IsSome (bytes_of self.now place) }
+        ensures { IfOk result (λ bytes. Some bytes ≡ bytes_of self.now place) }
+    {
+        self.places.share(place)
     }
 
     fn feed_effect(&mut self, effect: &Effect<'_>) -> Result<Option<ShownFrame>, FeedFault>

@@ -1,5 +1,5 @@
 // Copies, a page at a time at most.
-ghost use Rattle.std.specs.Prelude.{◌≡◌, ◌+◌, ◌-◌, ◌/◌, ◌%◌, ◌<◌, ◌≤◌, length, drop, OnOk, OnErr, slice_range};
+ghost use Rattle.std.specs.Prelude.{◌≡◌, ◌+◌, ◌-◌, ◌/◌, ◌%◌, ◌<◌, ◌≤◌, length, drop, IfOk, OnOk, OnErr, slice_range};
 ghost use Rattle.gfx_pages.specs.Lists.{KeepsOutside, overwrite};
 ghost use lib.Seq.{paste};
 
@@ -7,6 +7,16 @@ use super::{Bytes, PAGE, part_size};
 use crate::error::WantMemory;
 
 impl Bytes {
+    /// The same bytes again, in pages that both share until one of them writes there.
+    pub fn share(&self) -> Result<Bytes, WantMemory>
+        ensures { IfOk result (λ copy. copy ≡ self.now) }
+    {
+        let length = self.length();
+        let mut copy = Bytes::new(self.alloc, length)?;
+        copy.copy_from(0, self, 0, length)?;
+        Ok(copy)
+    }
+
     /// Puts `count` bytes of `other`, from `from` on, at `to`. Where both places begin a page, whole pages are shared.
     /// After an error only the `count` bytes from `to` on are not known.
     pub fn copy_from(

@@ -9,7 +9,7 @@ next-requires g c = not_fresh c.args.self.now.decoder c.requires.going
 pub returns-in_err-next-clause-err : goal.returns-in_err-next-clause-err
 returns-in_err-next-clause-err g c =
     let p = err_from_is_err_and c.from_residual.result c.from_residual.ensures.1 in
-    rw (p.1, p.2) (λ fed file done r. read_stops c.args.self.now fed c.in_err-next.field-0.0 file _ _ done r c.in_err-next.ensures.gives c.in_err-next.ensures.fault)
+    rw (p.1, p.2) (λ fed file valid r. read_stops c.args.self.now fed c.in_err-next.field-0.0 file _ _ valid r c.in_err-next.ensures.gives c.in_err-next.ensures.fault)
 
 pub returns-in_err-next-clause-kind : goal.returns-in_err-next-clause-kind
 returns-in_err-next-clause-kind g c =
@@ -26,6 +26,6 @@ pub returns-clause-fewer : goal.returns-clause-fewer
 returns-clause-fewer g c = next_fewer c.args.self.now.decoder _ c.in_ok-next.field-0 c.requires.going c.in_ok-next.ensures.block c.in_ok-next.ensures.few c.in_ok-next.ensures.after
 
 pub returns-clause-none : goal.returns-clause-none
-returns-clause-none g c is fed file done r =
+returns-clause-none g c is fed file valid r =
     let none = ok_same c.in_ok-next.field-0 is in
-    next_none c.args.self.now c.in_ok-next.field-0 _ _ none c.in_ok-next.ensures.gives (c.in_ok-next.ensures.end none).1 fed file done r
+    next_none c.args.self.now c.in_ok-next.field-0 _ _ none c.in_ok-next.ensures.gives (c.in_ok-next.ensures.end none).1 fed file valid r

@@ -10,7 +10,7 @@ returns-in_err-raw-clause-err g c =
     let p = err_from_is_err_and c.from_residual.result c.from_residual.ensures.1 in
     rw (p.1, p.2) (λ shown file w.
     let k = c.reading.invariant.plays shown file w in
-    stops_shown k.fed _ file _ c.reading.self shown k.replayed k.shows (c.in_err-raw.ensures.err k.fed file k.replayed k.read))
+    stops_shown k.fed _ file _ c.reading.self shown k.replayed k.shows (c.in_err-raw.ensures.err k.fed file k.replayed.replays.stands.valid k.read))
 
 pub returns-in_err-frame-clause-err : goal.returns-in_err-frame-clause-err
 returns-in_err-frame-clause-err g c =
@@ -20,7 +20,7 @@ returns-in_err-frame-clause-err g c =
     let k = c.reading.invariant.plays shown file w in
     let done = replayed_alike c.reading.self c.next.new.self k.fed c.next.ensures.kept k.replayed in
     stops_shown k.fed _ file _ c.next.new.self shown done k.shows
-    (refused_stops c.next.new.self c.next.new.self k.fed (item_of c.in-Some.raw) _ file _ done (some k.fed file k.read) c.in_err-frame.ensures.kind (c.in_err-frame.ensures.err k.fed done)))
+    (refused_stops c.next.new.self k.fed (item_of c.in-Some.raw) _ file _ done.replays.stands.valid (some k.fed file k.read) c.in_err-frame.ensures.kind (c.in_err-frame.ensures.err k.fed done)))
 
 pub returns-in-Some-2-clause-some : goal.returns-in-Some-2-clause-some
 returns-in-Some-2-clause-some g c shown file w =
@@ -52,4 +52,4 @@ reading-preserved g c =
 pub returns-clause-none : goal.returns-clause-none
 returns-clause-none g c is shown file w =
     let k = c.reading.invariant.plays shown file w in
-    has_all c.reading.self c.next.new.self shown file _ _ k c.next.ensures.kept (c.in_ok-raw.ensures.none (ap Ok c.in_default.is) k.fed file k.replayed k.read)
+    has_all c.reading.self c.next.new.self shown file _ _ k c.next.ensures.kept (c.in_ok-raw.ensures.none (ap Ok c.in_default.is) k.fed file k.replayed.replays.stands.valid k.read)
