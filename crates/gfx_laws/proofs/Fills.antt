@@ -119,7 +119,7 @@ span_is x xs r =
 
 -- ---- ranges
 
-range_among : (a n i : ℕ) → a ≤ i → i < a + n → is_among i (range_with_len a n) ≡ true
+pub range_among : (a n i : ℕ) → a ≤ i → i < a + n → is_among i (range_with_len a n) ≡ true
 range_among a zero i low high = absurd (omega (arith, low, high))
 range_among a (suc n) i low high = by_test _ (a == i)
     (λ same. or_left (a == i) (is_among i (range_with_len (a + 1) n)) same)
@@ -139,7 +139,7 @@ range_rising a (suc n) = (all_range (λ y. a < y) (a + 1) n (λ k low high. omeg
 
 -- ---- pages
 
-nonzero_among : (f : ℕ → ℕ) (at n i : ℕ) → is_among i (nonzero f at n) ≡ is_among i (range_with_len at n) && not (f i == 0)
+pub nonzero_among : (f : ℕ → ℕ) (at n i : ℕ) → is_among i (nonzero f at n) ≡ is_among i (range_with_len at n) && not (f i == 0)
 nonzero_among f at n i = among_filter (λ i. not (f i == 0)) i (range_with_len at n)
 
 -- the fill of a page, where there is one, is a span of its offsets at which a byte isn't 0
@@ -181,7 +181,7 @@ filter_map_some i g k s e c (j ∷ ks) m = by (or_cases (j == k) (is_among k ks)
     by (inr rest) more = later (g j) (more rest)
 
 -- a page with a byte that isn't 0 has a fill that covers it
-page_covers : (f : ℕ → ℕ) (at n i : ℕ) → is_among i (nonzero f at n) ≡ true → (s : Span) × (span_of (nonzero f at n) ≡ Some s) × IsCovered i s
+pub page_covers : (f : ℕ → ℕ) (at n i : ℕ) → is_among i (nonzero f at n) ≡ true → (s : Span) × (span_of (nonzero f at n) ≡ Some s) × IsCovered i s
 page_covers f at n i m = by (nonzero f at n) refl m
   where
     by : (xs : List ℕ) → nonzero f at n ≡ xs → is_among i xs ≡ true → (s : Span) × (span_of (nonzero f at n) ≡ Some s) × IsCovered i s

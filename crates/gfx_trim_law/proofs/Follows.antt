@@ -24,7 +24,7 @@ use Rattle.gfx_trim_law.proofs.Keeps.{trimmed_good}
 
 -- ---- more bytes behind a file
 
-both_bytes : (bytes rest : List ℕ) → AreBytes bytes → AreBytes rest → AreBytes (bytes ++ rest)
+pub both_bytes : (bytes rest : List ℕ) → AreBytes bytes → AreBytes rest → AreBytes (bytes ++ rest)
 both_bytes bytes rest fit others = are_bytes (bytes ++ rest) (all_append (λ b. b < 256) bytes rest (all_bytes bytes fit) (all_bytes rest others))
 
 -- the header by itself
@@ -92,12 +92,12 @@ file_more bytes rest ws end file =
 -- ---- the laws
 
 -- the blocks of the longer file, which begin with those without a fault of the shorter
-record Longer (last : ℕ) (bytes rest : List ℕ) (shown : List Frame) (s : Shows last bytes shown) : Type 0 where
-  others : List Whole
-  end : End
-  are : AreBlocks (bytes ++ rest) ((s.valid).good ++ others) end
+pub record Longer (last : ℕ) (bytes rest : List ℕ) (shown : List Frame) (s : Shows last bytes shown) : Type 0 where
+  pub others : List Whole
+  pub end : End
+  pub are : AreBlocks (bytes ++ rest) ((s.valid).good ++ others) end
 
-longer : (last : ℕ) (bytes rest : List ℕ) (shown : List Frame) (s : Shows last bytes shown) → AreBytes (bytes ++ rest) → Longer last bytes rest shown s
+pub longer : (last : ℕ) (bytes rest : List ℕ) (shown : List Frame) (s : Shows last bytes shown) → AreBytes (bytes ++ rest) → Longer last bytes rest shown s
 longer last bytes rest shown s fit =
     let more = file_more bytes rest s.blocks s.end s.file in
     let good = (s.valid).good in

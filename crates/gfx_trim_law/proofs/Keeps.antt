@@ -30,7 +30,7 @@ few n at (inl none) = omega (arith, none)
 few n at (inr some) = omega (arith, some)
 
 -- the range of a file can be written behind the section for what stands before it
-written : (m : ℕ) (at : Position) (first last : ℕ) (ws : List Whole) (c : Cut) → (m ≡ 1) ⊎ (m ≡ 2) → at.in_section ≡ false → AllByRecursion (IsStanding m) ws → HaveRoom at (map part_of ws) →
+pub written : (m : ℕ) (at : Position) (first last : ℕ) (ws : List Whole) (c : Cut) → (m ≡ 1) ⊎ (m ≡ 2) → at.in_section ≡ false → AllByRecursion (IsStanding m) ws → HaveRoom at (map part_of ws) →
     IsRange first last ws c → IsWritten m (history_to c) (range_from last c)
 written m at first last ws c version outside standing room is =
     let range = range_from last c in
@@ -52,9 +52,11 @@ written m at first last ws c version outside standing room is =
       version = version;
       at = is.at;
       spelled = spelled_onto m c.front [] front_standing tt;
-      standing = range_standing;
-      few = few (length range) here.outside (few_outside m range here range_standing unbegun closed range_room);
-      unbegun = unbegun;
+      behind = record {
+        standing = range_standing;
+        few = few (length range) here.outside (few_outside m range here range_standing unbegun closed range_room);
+        unbegun = unbegun;
+      };
     }
 
 -- the range of a file that has it

@@ -1,0 +1,19 @@
+pub mod Only
+pub mod Closed
+pub mod SomeItems
+pub mod Answers
+pub mod Words
+pub mod Rows
+pub mod Effects
+pub mod Simulation
+pub mod Contained
+pub mod Range
+pub mod OnlyLawful
+pub mod Needs
+pub mod Zeros
+pub mod KeptBlocks
+pub mod KeptCovers
+pub mod LeanFiles
+pub mod Computed
+pub mod Marks
+mod Examples
