@@ -1,6 +1,6 @@
 -- The events of an object, from its row and the bytes of places.
 use Rattle.std.proofs.Common.{◌≡◌, ℕ, zero, suc, ◌+◌, ◌-◌, ◌*◌, ◌/◌, ◌<◌, ◌≤◌, ◌==◌, min, not, List, [], ◌∷◌, ◌++◌, Option, Some, length, take, drop, map, unwrap_or, cond, refl, ap, sym, subst, ◌∙◌, arith}
-use Rattle.std.specs.Prelude.{option_map, slice_index, slice_range}
+use Rattle.std.specs.Prelude.{flat_map, option_map, slice_index, slice_range}
 use Rattle.std.specs.List.{AllByRecursion, filter_map, range_with_len, cons_option}
 use Rattle.std.specs.Option.{option_map_or}
 use Rattle.std.specs.FinMap as finmap
@@ -15,6 +15,7 @@ use Rattle.gfx_model.specs.Views.{View, images_in, detail_images, fetched}
 use Rattle.gfx_model.specs.Bytes.{byte, bytes_at}
 use Rattle.gfx_model.specs.Section as section
 use Rattle.gfx_model.specs.Section.{Known, object_events, fill_events, fetch_event, image_event, marks_of}
+use Rattle.gfx_feature_model.specs.Lean.{Keep, kept_block}
 use Rattle.gfx_pages.specs.declared.bytes.Span.{Span}
 use Rattle.gfx_pages.proofs.Sized as pages
 use Rattle.gfx_pages.proofs.Scans.{span_is}
@@ -27,6 +28,7 @@ use Rattle.gfx_objects.specs.Objects as objects
 use Rattle.gfx_state.specs.Known.{bytes_in}
 use Rattle.gfx_state.specs.Filled.{fill_event, fills_written}
 use Rattle.gfx_state.specs.Images.{marks_in, picture}
+use Rattle.gfx_state.specs.Sections.{kept_object}
 use Rattle.gfx_state.specs.Stored.{IsStoredOf}
 
 -- ---- rows
@@ -127,18 +129,18 @@ module _ (v : View) (es : List Change) (x size : ℕ) (bytes : List ℕ) (is : b
       ∙ ap (λ n. map (fill_event x bytes) (filter_map (pages.page_fill 65536 (slice_index bytes) n) (range_with_len 0 ((n + 65535) / 65536)))) long
       ∙ pages_same (range_with_len 0 ((size + 65535) / 65536))
 
-pub memory_anew : (v : View) (es : List Change) (bytes : Place → Option (List ℕ)) (x parent size : ℕ) (mapped : Option MapRange) (d : Kept) → d ≡ kept.Memory size mapped
+pub memory_anew : (k : Keep) (v : View) (es : List Change) (bytes : Place → Option (List ℕ)) (x parent size : ℕ) (mapped : Option MapRange) (d : Kept) → d ≡ kept.Memory size mapped
     → v.mapped x ≡ mapped_of d → IsStoredOf v bytes es x (detail_of d)
-    → AllocateMemory parent x size ∷ fills_written x (bytes_in bytes (place.Memory x)) ++ option_map_or (λ r. MapMemory parent x r.offset r.length ∷ []) (option_map range_of mapped) []
-    ≡ object_events (record { answers = v; es = es }) x parent (detail_of d)
-memory_anew v es bytes x parent size mapped d is =
+    → AllocateMemory parent x size ∷ flat_map (kept_block k) (fills_written x (bytes_in bytes (place.Memory x))) ++ option_map_or (λ r. MapMemory parent x r.offset r.length ∷ []) (option_map range_of mapped) []
+    ≡ kept_object k (record { answers = v; es = es }) x parent (detail_of d)
+memory_anew k v es bytes x parent size mapped d is =
     subst (λ d. v.mapped x ≡ mapped_of d → IsStoredOf v bytes es x (detail_of d)
-    → AllocateMemory parent x size ∷ fills_written x (bytes_in bytes (place.Memory x)) ++ option_map_or (λ r. MapMemory parent x r.offset r.length ∷ []) (option_map range_of mapped) []
-    ≡ object_events (record { answers = v; es = es }) x parent (detail_of d)) (sym is)
+    → AllocateMemory parent x size ∷ flat_map (kept_block k) (fills_written x (bytes_in bytes (place.Memory x))) ++ option_map_or (λ r. MapMemory parent x r.offset r.length ∷ []) (option_map range_of mapped) []
+    ≡ kept_object k (record { answers = v; es = es }) x parent (detail_of d)) (sym is)
     (λ map_is stored.
-    ap (λ l. AllocateMemory parent x size ∷ l ++ option_map_or (λ r. MapMemory parent x r.offset r.length ∷ []) (option_map range_of mapped) [])
+    ap (λ l. AllocateMemory parent x size ∷ flat_map (kept_block k) l ++ option_map_or (λ r. MapMemory parent x r.offset r.length ∷ []) (option_map range_of mapped) [])
     (fills_same v es x size (bytes_in bytes (place.Memory x)) (ap (λ o. unwrap_or o []) stored))
-    ∙ ap (λ m. AllocateMemory parent x size ∷ fill_events (record { answers = v; es = es }) x size ++ option_map_or (λ r. MapMemory parent x r.offset r.length ∷ []) m []) (sym map_is))
+    ∙ ap (λ m. AllocateMemory parent x size ∷ flat_map (kept_block k) (fill_events (record { answers = v; es = es }) x size) ++ option_map_or (λ r. MapMemory parent x r.offset r.length ∷ []) m []) (sym map_is))
 
 -- ---- a swapchain
 

@@ -1,6 +1,6 @@
 -- Going over the fills of a list of bytes, and what a section says of them.
-use Rattle.std.proofs.Common.{◌≡◌, ℕ, zero, suc, ◌+◌, ◌-◌, ◌*◌, ◌/◌, ◌<◌, ◌≤◌, min, Bool, true, false, List, [], ◌∷◌, Option, Some, None, length, nat_le, cond, refl, ap, sym, subst, ◌∙◌, arith, rules}
-use Rattle.std.specs.Prelude.{find, filter, option_map, unwrap_or, IsSome, IsSomeAnd, slice_index}
+use Rattle.std.proofs.Common.{◌≡◌, ℕ, zero, suc, ◌+◌, ◌-◌, ◌*◌, ◌/◌, ◌<◌, ◌≤◌, min, Bool, true, false, List, [], ◌∷◌, Option, Some, None, length, nat_le, cond, refl, ap, sym, subst, ◌∙◌, length-take, length-drop, arith, rules}
+use Rattle.std.specs.Prelude.{if◌then◌else◌, find, filter, option_map, unwrap_or, IsSome, IsSomeAnd, slice_index, slice_range}
 use Rattle.std.specs.List.{AllByRecursion, filter_map, range_with_len, cons_option}
 use Rattle.std.proofs.lemmas.Bool.{le-leb, leb-true}
 use Rattle.std.proofs.lemmas.Bool.Decides.{nat_tests}
@@ -8,6 +8,9 @@ use Rattle.gfx_pages.specs.declared.bytes.Span.{Span}
 use Rattle.gfx_pages.specs.Fills.{fills}
 use Rattle.gfx_pages.proofs.Scans.{span_is}
 use Rattle.gfx_pages.proofs.Sized.{page_fill, fills_are}
+use Rattle.gfx_model.specs.Section.{when}
+use Rattle.gfx_feature_model.specs.Lean.{Keep, kept_block}
+use Rattle.gfx_state.specs.Filled.{fill_event}
 use Rattle.gfx_state.proofs.Listing.{filter_in, filter_out}
 
 -- each span begins behind those before it
@@ -143,3 +146,15 @@ is_there (Some bytes) n is = search rules
 pub inside_there : (o : Option (List ℕ)) (n k : ℕ) → option_map length o ≡ Some n → k ≤ n → IsSomeAnd o (λ bytes. k ≤ length bytes)
 inside_there None n k is l = absurd (cc)
 inside_there (Some bytes) n k is l = let same : length bytes ≡ n = cc in omega (arith, same, l)
+
+pub inside_all : (o : Option (List ℕ)) (n : ℕ) → IsSomeAnd o (λ bytes. n ≤ length bytes) → n ≤ length (unwrap_or o [])
+inside_all None n is = absurd is
+inside_all (Some bytes) n is = is
+
+-- ---- a fill that may be left out
+
+pub fill_kept : (k : Keep) (memory : ℕ) (bytes : List ℕ) (fill : Span) (b : Bool) → fill.at + fill.length ≤ length bytes → k.fill memory fill.at fill.length ≡ b
+    → kept_block k (fill_event memory bytes fill) ≡ when b (fill_event memory bytes fill ∷ [])
+fill_kept k memory bytes fill b within is =
+    let long : length (slice_range bytes fill.at (fill.at + fill.length)) ≡ fill.length = simp (length-take, length-drop) (omega (arith, within)) in
+    ap (λ n. if k.fill memory fill.at n then fill_event memory bytes fill ∷ [] else []) long ∙ ap (λ t. if t then fill_event memory bytes fill ∷ [] else []) is

@@ -5,6 +5,7 @@ pub mod Fitting
 pub mod Resources
 pub mod Recorded
 pub mod Anew
+pub mod Kept
 pub mod Standing
 pub mod Versions
 pub mod Placeless

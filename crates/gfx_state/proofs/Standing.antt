@@ -17,23 +17,25 @@ use Rattle.gfx_model.specs.Questions.{image_size, Binding, Range, Buffer, passes
 use Rattle.gfx_model.specs.Views.{View, is_live, fetched}
 use Rattle.gfx_model.specs.History.{view, executed}
 use Rattle.gfx_model.specs.Stands.{Stands}
-use Rattle.gfx_model.specs.Section.{section}
+use Rattle.gfx_model.specs.Section.{section, known}
+use Rattle.gfx_feature_model.specs.Lean.{Keep, kept_section}
 use Rattle.gfx_model.proofs.Lists.{all_along}
-use Rattle.gfx_laws.specs.Lawful.{base, IsLawful, IsCommandOf}
+use Rattle.gfx_laws.specs.Lawful.{base, IsLawful, IsCommandOf, cb_of}
 use Rattle.gfx_section_law.proofs.Sizes.{command_small}
 use Rattle.gfx_tracker.specs.declared.tracker.Tracker.{Tracker}
 use Rattle.gfx_tracker.specs.State.{state_answers}
 use Rattle.gfx_tracker.specs.Tracker.{answers}
 use Rattle.gfx_state.specs.Pools.{CommandsFit}
-use Rattle.gfx_state.specs.Sections.{section_by}
+use Rattle.gfx_state.specs.Sections.{everything, kept_by}
 use Rattle.gfx_state.specs.Images.{IsPicture}
 use Rattle.gfx_state.specs.Stored.{HasPlacesOf, HasPlaces, IsStoredOf, IsStored}
+use Rattle.gfx_state.proofs.Kept.{NameTheirs, section_kept, all_kept}
 
 -- ---- what a section reads of answers
 
--- the section by these answers alone
-abbrev section_of : List Change → ℕ → (ℕ → Option Object) → List ℕ → (ℕ → Option Binding) → (ℕ → Option Range) → (ℕ → ℕ) → (ℕ → Buffer) → (ℕ → Bool) → (ℕ → ℕ → Bool) → List Event
-section_of es n live ids bound mapped layout buffer signalled acquired = section_by (record {
+-- what is kept of the section by these answers alone
+abbrev kept_of : Keep → List Change → ℕ → (ℕ → Option Object) → List ℕ → (ℕ → Option Binding) → (ℕ → Option Range) → (ℕ → ℕ) → (ℕ → Buffer) → (ℕ → Bool) → (ℕ → ℕ → Bool) → List Event
+kept_of k es n live ids bound mapped layout buffer signalled acquired = kept_by k (record {
   answers = record {
     live = live;
     ids = ids;
@@ -62,16 +64,16 @@ pub record IsRead (v w : View) : Type 0 where
   pub signalled : v.signalled ≡ w.signalled
   pub acquired : v.acquired ≡ w.acquired
 
-pub section_same : (v w : View) (es : List Change) (n : ℕ) → IsRead v w → section_by (record { answers = v; es = es }) n ≡ section_by (record { answers = w; es = es }) n
-section_same v w es n same =
-    ap (λ x. section_of es n x v.ids v.bound v.mapped v.layout v.buffer v.signalled v.acquired) same.live
-    ∙ ap (λ x. section_of es n w.live x v.bound v.mapped v.layout v.buffer v.signalled v.acquired) same.ids
-    ∙ ap (λ x. section_of es n w.live w.ids x v.mapped v.layout v.buffer v.signalled v.acquired) same.bound
-    ∙ ap (λ x. section_of es n w.live w.ids w.bound x v.layout v.buffer v.signalled v.acquired) same.mapped
-    ∙ ap (λ x. section_of es n w.live w.ids w.bound w.mapped x v.buffer v.signalled v.acquired) same.layout
-    ∙ ap (λ x. section_of es n w.live w.ids w.bound w.mapped w.layout x v.signalled v.acquired) same.buffer
-    ∙ ap (λ x. section_of es n w.live w.ids w.bound w.mapped w.layout w.buffer x v.acquired) same.signalled
-    ∙ ap (λ x. section_of es n w.live w.ids w.bound w.mapped w.layout w.buffer w.signalled x) same.acquired
+pub kept_same : (k : Keep) (v w : View) (es : List Change) (n : ℕ) → IsRead v w → kept_by k (record { answers = v; es = es }) n ≡ kept_by k (record { answers = w; es = es }) n
+kept_same k v w es n same =
+    ap (λ x. kept_of k es n x v.ids v.bound v.mapped v.layout v.buffer v.signalled v.acquired) same.live
+    ∙ ap (λ x. kept_of k es n w.live x v.bound v.mapped v.layout v.buffer v.signalled v.acquired) same.ids
+    ∙ ap (λ x. kept_of k es n w.live w.ids x v.mapped v.layout v.buffer v.signalled v.acquired) same.bound
+    ∙ ap (λ x. kept_of k es n w.live w.ids w.bound x v.layout v.buffer v.signalled v.acquired) same.mapped
+    ∙ ap (λ x. kept_of k es n w.live w.ids w.bound w.mapped x v.buffer v.signalled v.acquired) same.layout
+    ∙ ap (λ x. kept_of k es n w.live w.ids w.bound w.mapped w.layout x v.signalled v.acquired) same.buffer
+    ∙ ap (λ x. kept_of k es n w.live w.ids w.bound w.mapped w.layout w.buffer x v.acquired) same.signalled
+    ∙ ap (λ x. kept_of k es n w.live w.ids w.bound w.mapped w.layout w.buffer w.signalled x) same.acquired
 
 -- ---- the same places
 
@@ -120,9 +122,17 @@ stands_read v h stands = record {
   acquired = λ i x k. (stands.acquired x k) i;
 }
 
-pub section_stands : (v : View) (h : List Event) (n : ℕ) → Stands v h → section_by (record { answers = v; es = executed h }) n ≡ section h n
-unfolding section
-section_stands v h n stands = section_same v (view h) (executed h) n (stands_read v h stands)
+-- what is kept of the section by answers that stand for a history is the kept section of this history
+pub kept_stands : (k : Keep) (v : View) (h : List Event) (n : ℕ) → NameTheirs v.buffer → Stands v h → kept_by k (record { answers = v; es = executed h }) n ≡ kept_section k h n
+unfolding section kept_section
+kept_stands k v h n theirs stands =
+    kept_same k v (view h) (executed h) n (stands_read v h stands)
+    ∙ sym (section_kept k (view h) (executed h) (subst NameTheirs (λ i x. (stands.buffer x) i) theirs) n)
+
+-- where all is kept it is the section
+pub all_stands : (v : View) (h : List Event) (n : ℕ) → NameTheirs v.buffer → Stands v h → kept_section everything h n ≡ section h n
+unfolding section kept_section
+all_stands v h n theirs stands = section_kept everything (view h) (executed h) (subst NameTheirs (λ i x. (stands.buffer x) i) theirs) n ∙ all_kept (known h) n
 
 -- ---- the commands of a tracker
 
@@ -144,3 +154,13 @@ lawful_fit v es lawful = λ cb kept.
 pub commands_fit : (t : Tracker) → CommandsFit (answers t).buffer
 unfolding answers
 commands_fit t = ∥∥₁_elim t.lawful (hlevel props) (lawful_fit (state_answers t.state) [])
+
+lawful_theirs : (v : View) (es : List Change) → IsLawful v es → NameTheirs v.buffer
+lawful_theirs v es lawful = λ cb kept. (
+  not_zero v lawful.objects.zero cb (lawful.buffers.owner cb kept),
+  all_along (IsCommandOf (base v) cb) (λ c. cb_of c ≡ cb) (λ c o. o.0) (v.buffer cb).commands (lawful.buffers.commands cb kept),
+)
+
+pub commands_theirs : (t : Tracker) → NameTheirs (answers t).buffer
+unfolding answers
+commands_theirs t = ∥∥₁_elim t.lawful (hlevel props) (lawful_theirs (state_answers t.state) [])

@@ -87,8 +87,8 @@ fn push_at(
     Ok(())
 }
 
-/// The fetched images of a swapchain, by index.
-pub(crate) fn fetched(
+/// The fetched images of a swapchain that has so many images, by index.
+pub fn fetched(
     alloc: Global,
     objects: &Objects,
     swapchain: u64,

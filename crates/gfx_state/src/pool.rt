@@ -1,5 +1,5 @@
 //! The blocks of a pool and its command buffers.
-ghost use Rattle.std.specs.Prelude.{◌≡◌, ◌≤◌, ◌^◌, ◌∷◌, ◌++◌, [], true, length, flat_map};
+ghost use Rattle.std.specs.Prelude.{◌≡◌, ◌≤◌, ◌^◌, ◌∷◌, ◌++◌, [], true, length, filter, flat_map, IfOk};
 ghost use Rattle.std.specs.List.{AllByRecursion};
 ghost use Rattle.gfx_types.specs.declared.names.Kind.TheVariants as kind;
 ghost use Rattle.gfx_model.specs.Events.Event.{CreateCommandPool, BeginCommandBuffer, EndCommandBuffer};
@@ -16,6 +16,7 @@ ghost use Rattle.gfx_model.specs.Limits.{max_live_objects, max_payload};
 
 use crate::StateFault;
 use crate::ids::{children_of, ids_of};
+use crate::keep::Keep;
 use crate::owned::Owned;
 use crate::room::Room;
 use crate::writer::write_effect;
@@ -24,6 +25,7 @@ use gfx_io::Sink;
 use gfx_objects::Objects;
 use gfx_params::{ParamFault, decode};
 use gfx_types::{Call, Effect, Kind};
+use std::alloc::{AllocError, Global};
 
 // Writes a recorded command.
 fn write_command<K: Sink>(
@@ -167,37 +169,71 @@ fn write_allocation<K: Sink>(
     }
 }
 
-// Writes what stands behind the creation of a pool: its buffers, and what is recorded in them.
-fn write_buffers<K: Sink>(
+// The kept buffers of a pool, rising.
+fn kept_buffers<P: Keep>(
+    alloc: Global,
+    objects: &Objects,
+    keep: &P,
+    pool: u64,
+) -> Result<Vec<u64>, AllocError>
+    ensures ids { IfOk result (λ ids. ids.items ≡ filter (P.kept keep.now).id (children_in (answers objects.now) kind.CommandBuffer pool)) }
+    ensures few { IfOk result (λ ids. length ids.items ≤ max_live_objects) }
+{
+    let mut cbs = children_of(alloc, objects, Kind::CommandBuffer, pool)?;
+    cbs.retain(|cb| keep.keeps(*cb));
+    Ok(cbs)
+}
+
+/// Writes what is recorded in the kept buffers of a pool.
+pub(crate) fn write_recorded<P: Keep, K: Sink>(
     sink: &mut K,
     room: &mut Room,
     objects: &Objects,
     recordings: &Recordings,
-    device: u64,
+    keep: &P,
     pool: u64,
 ) -> Result<(), StateFault>
     requires { CommandsFit (buffers recordings.now) }
-    ensures { let cbs = children_in (answers objects.now) kind.CommandBuffer pool in
+    ensures { let cbs = filter (P.kept keep.now).id (children_in (answers objects.now) kind.CommandBuffer pool) in
         Wrote (K.taken sink.old) (K.taken sink.new) (K.faults sink.old) (K.faults sink.new)
-        (section.allocate_event device pool cbs ++ flat_map (recorded_anew (buffers recordings.now)) cbs) result }
+        (flat_map (recorded_anew (buffers recordings.now)) cbs) result }
 {
-    let cbs = children_of(room.alloc, objects, Kind::CommandBuffer, pool)?;
-    write_allocation(sink, room, device, pool, &cbs)?;
+    let cbs = kept_buffers(room.alloc, objects, keep, pool)?;
     write_recordings(sink, room, recordings, &cbs)
 }
 
-/// Writes a pool with its buffers and what is recorded in them.
-#[tactic(auto, using(gfx_section_law::proofs::Sizes::fixed_small), unfolding(gfx_model::specs::Spelling::fields_of))]
-pub(crate) fn write_pool<K: Sink>(
+// Writes what stands behind the creation of a pool: its kept buffers, and what is recorded in them.
+fn write_buffers<P: Keep, K: Sink>(
     sink: &mut K,
     room: &mut Room,
     objects: &Objects,
     recordings: &Recordings,
+    keep: &P,
+    owned: Owned,
+) -> Result<(), StateFault>
+    requires { CommandsFit (buffers recordings.now) }
+    ensures { let cbs = filter (P.kept keep.now).id (children_in (answers objects.now) kind.CommandBuffer owned.id) in
+        Wrote (K.taken sink.old) (K.taken sink.new) (K.faults sink.old) (K.faults sink.new)
+        (section.allocate_event owned.parent owned.id cbs ++ flat_map (recorded_anew (buffers recordings.now)) cbs) result }
+{
+    let cbs = kept_buffers(room.alloc, objects, keep, owned.id)?;
+    write_allocation(sink, room, owned.parent, owned.id, &cbs)?;
+    write_recordings(sink, room, recordings, &cbs)
+}
+
+/// Writes a pool with its kept buffers and what is recorded in them.
+#[tactic(auto, using(gfx_section_law::proofs::Sizes::fixed_small), unfolding(gfx_model::specs::Spelling::fields_of))]
+pub(crate) fn write_pool<P: Keep, K: Sink>(
+    sink: &mut K,
+    room: &mut Room,
+    objects: &Objects,
+    recordings: &Recordings,
+    keep: &P,
     owned: Owned,
     flags: u32,
 ) -> Result<(), StateFault>
     requires { CommandsFit (buffers recordings.now) }
-    ensures { let cbs = children_in (answers objects.now) kind.CommandBuffer owned.id in
+    ensures { let cbs = filter (P.kept keep.now).id (children_in (answers objects.now) kind.CommandBuffer owned.id) in
         Wrote (K.taken sink.old) (K.taken sink.new) (K.faults sink.old) (K.faults sink.new)
         (CreateCommandPool owned.parent owned.id flags ∷ section.allocate_event owned.parent owned.id cbs
         ++ flat_map (recorded_anew (buffers recordings.now)) cbs) result }
@@ -208,5 +244,5 @@ pub(crate) fn write_pool<K: Sink>(
         flags,
     };
     write_effect(sink, room, &Effect::Call(call))?;
-    write_buffers(sink, room, objects, recordings, owned.parent, owned.id)
+    write_buffers(sink, room, objects, recordings, keep, owned)
 }

@@ -6,16 +6,16 @@ ghost use Rattle.gfx_io.specs.Pieces.{AppendsPart};
 ghost use Rattle.gfx_model.specs.Events.Event.{BeginSection, EndSection};
 ghost use Rattle.gfx_model.specs.Spelling.{encoding};
 ghost use Rattle.gfx_model.specs.Steps.{Change};
-ghost use Rattle.gfx_model.specs.Section as section;
 ghost use Rattle.gfx_commands.specs.Recordings.{buffers};
 ghost use Rattle.gfx_state.specs.Parts.{answers_in};
 ghost use Rattle.gfx_state.specs.Pools.{CommandsFit};
-ghost use Rattle.gfx_state.specs.Sections.{events_at, section_by};
+ghost use Rattle.gfx_state.specs.Sections.{kept_at, kept_group, kept_by};
 ghost use Rattle.gfx_state.specs.Stored.{HasPlaces, IsStored};
 ghost use Rattle.gfx_state.specs.Written.{Wrote, Counted};
 
 use crate::StateFault;
-use crate::object::write_object;
+use crate::keep::Keep;
+use crate::object::write_kept;
 use crate::parts::Parts;
 use crate::room::Room;
 use crate::writer::write_effect;
@@ -39,64 +39,67 @@ const ORDER: [Kind; 11] = [
     Kind::Pool,
 ];
 
-// Writes the live object of an id, where there is one.
-fn write_at<B: StateBytes, K: Sink>(
+// Writes what is kept of the live object of an id, where there is one.
+fn write_at<B: StateBytes, P: Keep, K: Sink>(
     sink: &mut K,
     room: &mut Room,
     parts: &Parts<'_>,
     bytes: &B,
+    keep: &P,
     id: u64,
 ) -> Result<(), StateFault>
     requires fit { CommandsFit (buffers parts.now.recordings.now) }
     requires places { HasPlaces (answers_in parts.now) (B.bytes bytes.now) }
     ensures written { (es : List Change) → IsStored (answers_in parts.now) (B.bytes bytes.now) es → Wrote (K.taken sink.old) (K.taken sink.new) (K.faults sink.old) (K.faults sink.new)
-        (events_at (record { answers = answers_in parts.now; es = es }) id) result }
+        (kept_at (P.kept keep.now) (record { answers = answers_in parts.now; es = es }) id) result }
     ensures counts { Counted (K.faults sink.old) (K.faults sink.new) result }
 {
     match parts.objects.get(id) {
-        Some(object) => write_object(sink, room, parts, bytes, id, *object),
+        Some(object) => write_kept(sink, room, parts, bytes, keep, id, *object),
         None => Ok(()),
     }
 }
 
-// Writes the live objects of a kind.
-fn write_kind<B: StateBytes, K: Sink>(
+// Writes what is kept of the live objects of a kind.
+fn write_kind<B: StateBytes, P: Keep, K: Sink>(
     sink: &mut K,
     room: &mut Room,
     parts: &Parts<'_>,
     bytes: &B,
+    keep: &P,
     kind: Kind,
 ) -> Result<(), StateFault>
     requires fit { CommandsFit (buffers parts.now.recordings.now) }
     requires places { HasPlaces (answers_in parts.now) (B.bytes bytes.now) }
     ensures written { (es : List Change) → IsStored (answers_in parts.now) (B.bytes bytes.now) es → Wrote (K.taken sink.old) (K.taken sink.new) (K.faults sink.old) (K.faults sink.new)
-        (section.group (record { answers = answers_in parts.now; es = es }) kind) result }
+        (kept_group (P.kept keep.now) (record { answers = answers_in parts.now; es = es }) kind) result }
     ensures counts { Counted (K.faults sink.old) (K.faults sink.new) result }
 {
     let mut after = 0;
     'ids: while let Some(id) = parts.objects.next(kind, after) {
-        write_at(sink, room, parts, bytes, id)?;
+        write_at(sink, room, parts, bytes, keep, id)?;
         after = id;
     }
     Ok(())
 }
 
-// Writes the live objects of some kinds, kind by kind.
-fn write_kinds<B: StateBytes, K: Sink>(
+// Writes what is kept of the live objects of some kinds, kind by kind.
+fn write_kinds<B: StateBytes, P: Keep, K: Sink>(
     sink: &mut K,
     room: &mut Room,
     parts: &Parts<'_>,
     bytes: &B,
+    keep: &P,
     kinds: &[Kind],
 ) -> Result<(), StateFault>
     requires fit { CommandsFit (buffers parts.now.recordings.now) }
     requires places { HasPlaces (answers_in parts.now) (B.bytes bytes.now) }
     ensures written { (es : List Change) → IsStored (answers_in parts.now) (B.bytes bytes.now) es → Wrote (K.taken sink.old) (K.taken sink.new) (K.faults sink.old) (K.faults sink.new)
-        (flat_map (section.group (record { answers = answers_in parts.now; es = es })) kinds.now) result }
+        (flat_map (kept_group (P.kept keep.now) (record { answers = answers_in parts.now; es = es })) kinds.now) result }
     ensures counts { Counted (K.faults sink.old) (K.faults sink.new) result }
 {
     'kinds: for kind in kinds {
-        write_kind(sink, room, parts, bytes, *kind)?;
+        write_kind(sink, room, parts, bytes, keep, *kind)?;
     }
     Ok(())
 }
@@ -124,31 +127,33 @@ fn write_end<K: Sink>(sink: &mut K, room: &mut Room, frame: u64) -> Result<(), S
     )
 }
 
-// Writes the markers and what stands between them.
-fn write_all<B: StateBytes, K: Sink>(
+// Writes the markers and what is kept between them.
+fn write_all<B: StateBytes, P: Keep, K: Sink>(
     sink: &mut K,
     room: &mut Room,
     parts: &Parts<'_>,
     bytes: &B,
+    keep: &P,
     frame: u64,
 ) -> Result<(), StateFault>
     requires fit { CommandsFit (buffers parts.now.recordings.now) }
     requires places { HasPlaces (answers_in parts.now) (B.bytes bytes.now) }
     ensures written { (es : List Change) → IsStored (answers_in parts.now) (B.bytes bytes.now) es → Wrote (K.taken sink.old) (K.taken sink.new) (K.faults sink.old) (K.faults sink.new)
-        (section_by (record { answers = answers_in parts.now; es = es }) frame) result }
+        (kept_by (P.kept keep.now) (record { answers = answers_in parts.now; es = es }) frame) result }
     ensures counts { Counted (K.faults sink.old) (K.faults sink.new) result }
 {
     write_begin(sink, room, frame)?;
-    write_kinds(sink, room, parts, bytes, &ORDER)?;
+    write_kinds(sink, room, parts, bytes, keep, &ORDER)?;
     write_end(sink, room, frame)
 }
 
-/// Writes the state section for the frame of this number, both its markers with it, block by block.
-pub(crate) fn write_section<B: StateBytes, K: Sink>(
+/// Writes what is kept of the state section for the frame of this number, block by block, with both markers.
+pub(crate) fn write_section<B: StateBytes, P: Keep, K: Sink>(
     alloc: Global,
     parts: &Parts<'_>,
     bytes: &B,
     frame: u64,
+    keep: &P,
     sink: &mut K,
 ) -> Result<(), StateFault>
     // the block of each command that is kept fits in a file
@@ -156,11 +161,11 @@ pub(crate) fn write_section<B: StateBytes, K: Sink>(
     // each live memory and each fetched image of a live swapchain has a place of the right length
     requires places { HasPlaces (answers_in parts.now) (B.bytes bytes.now) }
     ensures ok { (es : List Change) → IsStored (answers_in parts.now) (B.bytes bytes.now) es
-        → OnOk result (Appends (K.taken sink.old) (K.taken sink.new) (flat_map (encoding 1 0) (section_by (record { answers = answers_in parts.now; es = es }) frame))) }
+        → OnOk result (Appends (K.taken sink.old) (K.taken sink.new) (flat_map (encoding 1 0) (kept_by (P.kept keep.now) (record { answers = answers_in parts.now; es = es }) frame))) }
 
-    // After an error the sink took a front of the section.
+    // After an error the sink took a front of it.
     ensures err { (es : List Change) → IsStored (answers_in parts.now) (B.bytes bytes.now) es
-        → OnErr result (AppendsPart (K.taken sink.old) (K.taken sink.new) (flat_map (encoding 1 0) (section_by (record { answers = answers_in parts.now; es = es }) frame))) }
+        → OnErr result (AppendsPart (K.taken sink.old) (K.taken sink.new) (flat_map (encoding 1 0) (kept_by (P.kept keep.now) (record { answers = answers_in parts.now; es = es }) frame))) }
     ensures later { K.faults sink.old ≤ K.faults sink.new }
     ensures cause { result ≡ Err StateFault.SinkFault → Rose (K.faults sink.old) (K.faults sink.new) }
 {
@@ -168,5 +173,5 @@ pub(crate) fn write_section<B: StateBytes, K: Sink>(
         alloc,
         block: Vec::new(alloc),
     };
-    write_all(sink, &mut room, parts, bytes, frame)
+    write_all(sink, &mut room, parts, bytes, keep, frame)
 }

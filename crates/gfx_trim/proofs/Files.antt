@@ -90,7 +90,7 @@ in_version first last m n fed (inr same) = ap (λ m. written_of m first last fed
 -- ---- a range that is not whole in the blocks that were read
 
 -- a frame from the range's first on is not shown before it
-not_before : (first last : ℕ) (ws : List Whole) → is_valid (history_of ws) ≡ true → has_boundary first ws ≡ true → first ≤ last → has_frame last (frames (history_to (boundary first ws))) ≡ false
+pub not_before : (first last : ℕ) (ws : List Whole) → is_valid (history_of ws) ≡ true → has_boundary first ws ≡ true → first ≤ last → has_frame last (frames (history_to (boundary first ws))) ≡ false
 not_before first last ws valid there ordered = by (has_frame last (frames (history_to (boundary first ws)))) refl
   where
     h : List Event
@@ -106,7 +106,7 @@ not_before first last ws valid there ordered = by (has_frame last (frames (histo
     by false none = refl
 
 -- frame `last` is not reached from where the range begins
-outside_going : (first last : ℕ) (ws : List Whole) → is_valid (history_of ws) ≡ true → first ≤ last → has_boundary first ws ≡ true → reaches (last + 1) (history_to (boundary first ws)) (boundary first ws).rest ≡ false →
+pub outside_going : (first last : ℕ) (ws : List Whole) → is_valid (history_of ws) ≡ true → first ≤ last → has_boundary first ws ≡ true → reaches (last + 1) (history_to (boundary first ws)) (boundary first ws).rest ≡ false →
     IsOutside first last (history_of ws)
 outside_going first last ws valid ordered there going =
     outside first last (history_of ws) valid ordered (λ one two.
@@ -117,13 +117,13 @@ outside_ahead : (first last : ℕ) (ws : List Whole) → is_valid (history_of ws
 outside_ahead first last ws valid ordered none =
     outside first last (history_of ws) valid ordered (λ one two. let there = boundary_there first ws valid one in absurd cc)
 
-outside_phase : (p : Phase) (first last : ℕ) (kept : List ℕ) (ws : List Whole) → is_valid (history_of ws) ≡ true → first ≤ last → IsPhase p first last kept ws → IsOutside first last (history_of ws)
+pub outside_phase : (p : Phase) (first last : ℕ) (kept : List ℕ) (ws : List Whole) → is_valid (history_of ws) ≡ true → first ≤ last → IsPhase p first last kept ws → IsOutside first last (history_of ws)
 outside_phase phase.Before first last kept ws valid ordered g = outside_ahead first last ws valid ordered g.ahead
 outside_phase phase.Waiting first last kept ws valid ordered g =
     outside_going first last ws valid ordered g.there (quiet_reaches (last + 1) (boundary first ws).rest (history_to (boundary first ws)) g.quiet)
 outside_phase phase.Writing first last kept ws valid ordered g = outside_going first last ws valid ordered g.there g.going
 
-none_outside : (first last : ℕ) → first ≤ last → IsOutside first last []
+pub none_outside : (first last : ℕ) → first ≤ last → IsOutside first last []
 unfolding frames
 none_outside first last ordered = outside first last [] refl ordered (λ one two. absurd cc)
 
@@ -247,7 +247,7 @@ take_fails first last p mid c fed w (play.Bad fault block offset) file left rest
       minor_is = g.minor_is;
       text = subst (λ t. Appends before t (text_by c fed)) (sym (same fault block offset refl)) g.text;
     })
-    (refused_stops p mid fed w (play.Bad fault block offset) file rest g.stands.replayed read tt refuses)
+    (refused_stops mid fed w (play.Bad fault block offset) file rest g.stands.replayed.replays.stands.valid read tt refuses)
 take_fails first last p mid c fed w (play.NoSuchFrame low high) file left rest before middle after ordered g read minor refuses same part = absurd refuses
 take_fails first last p mid c fed w play.ReadFault file left rest before middle after ordered g read minor refuses same part = absurd refuses
 take_fails first last p mid c fed w play.SinkFault file left rest before middle after ordered g read minor refuses same part =
@@ -278,7 +278,7 @@ file_ends first last p q c fed why file left rest before after ordered g same to
 -- ---- the last block of the range
 
 -- a present shows its frame
-shown_by : (n : ℕ) (fed : List Whole) (w : Whole) → number_by (history_of fed) w.content ≡ Some n → has_frame n (frames (history_of (fed ++ w ∷ []))) ≡ true
+pub shown_by : (n : ℕ) (fed : List Whole) (w : Whole) → number_by (history_of fed) w.content ≡ Some n → has_frame n (frames (history_of (fed ++ w ∷ []))) ≡ true
 shown_by n fed w is = by _ refl is
   where
     by : (o : Option Frame) → frame_by (history_of fed) w.content ≡ o → option_map (λ (f : Frame). f.number) o ≡ Some n → has_frame n (frames (history_of (fed ++ w ∷ []))) ≡ true
@@ -289,13 +289,13 @@ shown_by n fed w is = by _ refl is
         ∙ list_any-append (λ (f : Frame). f.number == n) (frames (history_of fed)) (f ∷ [])
         ∙ or_right (has_frame n (frames (history_of fed))) ((f.number == n) || false) (or_left (f.number == n) false (eq-eqb f.number n number))
 
-has_shown : (first last : ℕ) (fed : List Whole) (w : Whole) → Ends first last fed w → HasShown first last (fed ++ w ∷ [])
+pub has_shown : (first last : ℕ) (fed : List Whole) (w : Whole) → Ends first last fed w → HasShown first last (fed ++ w ∷ [])
 has_shown first last fed w e = record { valid = e.valid; there = e.there; reached = e.reached; shown = shown_by last fed w e.shows }
 
-valid_history : (all : List ℕ) → is_valid (history_in all) ≡ true
+pub valid_history : (all : List ℕ) → is_valid (history_in all) ≡ true
 valid_history all = let p = prefix (blocks_of all).items [] (blocks_of all).end refl in ap is_valid p.history ∙ p.valid
 
-behind_last : (last : ℕ) (p : Player) (all rest : List ℕ) (fed : List Whole) (w : Whole) → IsFed (fed ++ w ∷ []) p.decoder all rest → number_by (history_of fed) w.content ≡ Some last → IsBehindLast last all rest
+pub behind_last : (last : ℕ) (p : Player) (all rest : List ℕ) (fed : List Whole) (w : Whole) → IsFed (fed ++ w ∷ []) p.decoder all rest → number_by (history_of fed) w.content ≡ Some last → IsBehindLast last all rest
 behind_last last p all rest fed w f shows = record { fed = fed; block = w; through = read_through fed w p.decoder all rest f; shows = shows }
 
 cut_whole : (first last : ℕ) (p : Player) (all rest : List ℕ) (fed : List Whole) (w : Whole) (before after : Option (List ℕ)) → first ≤ last → Ends first last fed w → IsFed (fed ++ w ∷ []) p.decoder all rest →

@@ -7,4 +7,6 @@ mod opening;
 mod phase;
 mod trimming;
 
+pub use marks::{begins_behind, begins_section, shows_frame};
+pub use phase::Phase;
 pub use trimming::trim;

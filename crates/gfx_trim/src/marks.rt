@@ -10,7 +10,7 @@ use gfx_replay::ShownFrame;
 use gfx_types::{Block, Effect};
 
 /// Whether the block begins a section.
-pub(crate) fn begins_section(block: &Block<'_>) -> bool
+pub fn begins_section(block: &Block<'_>) -> bool
     ensures { result ≡ content_begins (content_of block.now) false }
 {
     match block {
@@ -36,7 +36,7 @@ fn ends_section(first: u64, block: &Block<'_>) -> bool
 }
 
 /// Whether frame `first` begins right behind the block, which shows the frame of this number, if it shows one.
-pub(crate) fn begins_behind(first: u64, block: &Block<'_>, number: Option<u64>) -> bool
+pub fn begins_behind(first: u64, block: &Block<'_>, number: Option<u64>) -> bool
     ensures { (h : List Event) → number ≡ number_by h (content_of block.now) → result ≡ cuts_before first h (content_of block.now) }
 {
     match number {
@@ -46,7 +46,7 @@ pub(crate) fn begins_behind(first: u64, block: &Block<'_>, number: Option<u64>) 
 }
 
 /// Whether the frame that is shown, if one is, has this number.
-pub(crate) fn shows_frame(last: u64, number: Option<u64>) -> bool
+pub fn shows_frame(last: u64, number: Option<u64>) -> bool
     ensures { result ≡ is_number last number }
 {
     match number {

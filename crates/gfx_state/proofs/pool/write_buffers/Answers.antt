@@ -9,10 +9,10 @@ use Rattle.gfx_state.proofs.pool.write_buffers.Goals as goal
 pub returns-in_err-write_allocation : goal.returns-in_err-write_allocation
 returns-in_err-write_allocation g c =
     let is = c.deref.ensures.value ∙ c.in_ok-cbs.ensures.ids in
-    wrote_out _ c.from_residual-in_err-write_allocation.result (wrote_as (ap (allocate_event c.args.device c.args.pool) is) c.in_err-write_allocation.ensures) c.from_residual-in_err-write_allocation.ensures.1
+    wrote_out _ c.from_residual-in_err-write_allocation.result (wrote_as (ap (allocate_event c.args.owned.parent c.args.owned.id) is) c.in_err-write_allocation.ensures) c.from_residual-in_err-write_allocation.ensures.1
 
 pub returns : goal.returns
 returns g c =
     let is = c.deref.ensures.value ∙ c.in_ok-cbs.ensures.ids in
-    wrote_both _ (wrote_as (ap (allocate_event c.args.device c.args.pool) is) c.in_ok-write_allocation.ensures)
+    wrote_both _ (wrote_as (ap (allocate_event c.args.owned.parent c.args.owned.id) is) c.in_ok-write_allocation.ensures)
     (wrote_as (ap (flat_map (recorded_anew (buffers c.args.recordings.now))) (c.deref-2.ensures.value ∙ c.in_ok-cbs.ensures.ids)) c.write_recordings.ensures)

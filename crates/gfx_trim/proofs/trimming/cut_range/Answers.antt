@@ -44,7 +44,7 @@ returns-in_err-raw-clause-told g c =
     let before = g.K.Sink.taken c.args.sink.now in
     let after = g.K.Sink.taken c.reading.sink in
     rw (p.1, p.2)
-    (next_fails c.args.first c.args.last c.reading.player c.reading.cutter fed why _ _ _ before after c.requires.ordered w (c.in_err-raw.ensures.err fed _ w.stands.replayed w.read))
+    (next_fails c.args.first c.args.last c.reading.player c.reading.cutter fed why _ _ _ before after c.requires.ordered w (c.in_err-raw.ensures.err fed _ w.stands.replayed.replays.stands.valid w.read))
 
 -- a block was not taken
 pub returns-in_err-take-clause-told : goal.returns-in_err-take-clause-told
@@ -102,4 +102,4 @@ returns-clause-told g c =
     let before = g.K.Sink.taken c.args.sink.now in
     let after = g.K.Sink.taken c.reading.sink in
     file_ends c.args.first c.args.last c.reading.player c.next.new.self c.reading.cutter fed c.no_such_frame.result _ _ _ before after c.requires.ordered w c.next.ensures.kept
-    (c.in_ok-raw.ensures.none (ap Ok c.in_default.is) fed _ w.stands.replayed w.read) c.no_such_frame.ensures
+    (c.in_ok-raw.ensures.none (ap Ok c.in_default.is) fed _ w.stands.replayed.replays.stands.valid w.read) c.no_such_frame.ensures

@@ -1,0 +1,4 @@
+pub mod Files
+pub mod Leaving
+pub mod Parts
+pub mod Taking

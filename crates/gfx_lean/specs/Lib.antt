@@ -1,0 +1,3 @@
+pub mod Leaner
+pub mod Leans
+pub mod Written

@@ -1,0 +1,6 @@
+use Rattle.std.proofs.Common.{◌++◌, sym, ap, ◌∙◌, append-nil}
+use Rattle.gfx_needed.proofs.Listed.{no_image_ids}
+use Rattle.gfx_needed.proofs.lists.RefImageRegionsHasIds.list.Goals as goal
+
+pub returns : goal.returns
+returns c = sym (ap (λ l. c.args.arg2.now.items ++ l) (no_image_ids c.args.self.now.now) ∙ append-nil c.args.arg2.now.items)

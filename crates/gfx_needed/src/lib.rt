@@ -1,0 +1,9 @@
+//! Which ids a range of events needs of what stands before it.
+#![tactic(auto)]
+
+mod fields;
+mod listing;
+mod lists;
+mod needed;
+
+pub use needed::NeededIds;

@@ -1,0 +1,3 @@
+pub mod Follower
+pub mod Range
+pub mod Shown
