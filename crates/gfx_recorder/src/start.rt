@@ -1,7 +1,6 @@
 //! The run of a script.
-ghost use Rattle.std.specs.Prelude.{◌≡◌, ◌<◌, ℕ, List, length, map, IfOk, MatchBool};
+ghost use Rattle.std.specs.Prelude.{◌≡◌, ◌<◌, length, map, IfOk, MatchBool};
 ghost use Rattle.gfx_script_model.specs.Runs.{Safe};
-ghost use Rattle.gfx_script_model.specs.Scripts.{Parses, parses};
 ghost use Rattle.gfx_script.specs.Line.{phases_of};
 ghost use Rattle.gfx_seats.specs.Desk.{desk_id};
 ghost use Rattle.gfx_capture.specs.Entry.{IsVersion};
@@ -32,7 +31,7 @@ pub fn record_script<R: Threads + Wait + Sync, G: Gate + Sync>(
     gate: &G,
     script: &Script,
 ) -> Outcome
-    requires { (text : List ℕ) × Parses text (parses script.now.minor (phases_of script.now.phases)) }
+    requires { IsPlayable script.now.minor (phases_of script.now.phases) }
     ensures outcome { IsOutcome script.now.minor (phases_of script.now.phases) result }
     ensures complete { Safe script.now.minor (phases_of script.now.phases) → IsDone result }
 {

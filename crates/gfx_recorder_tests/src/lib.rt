@@ -2,6 +2,8 @@
 #![tactic(auto)]
 
 #[cfg(test)]
+mod gathered;
+#[cfg(test)]
 mod logs;
 #[cfg(test)]
 mod recording;

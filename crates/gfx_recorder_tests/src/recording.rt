@@ -1,9 +1,13 @@
 //! How a script is run in tests.
+ghost use Rattle.std.specs.Prelude.{IfOk};
+ghost use Rattle.gfx_script.specs.Line.{phases_of};
+ghost use Rattle.gfx_script_law.specs.Playable.{IsPlayable};
 
 use gfx_capture::Log;
+use gfx_gather::shown_script;
 use gfx_io::Gate;
 use gfx_recorder::{Outcome, record_script};
-use gfx_script::{ScriptFault, parse};
+use gfx_script::{Script, ScriptFault, parse};
 use gfx_types::Fault;
 use std::alloc::{AllocError, Global};
 use std::sync::Wait;
@@ -22,6 +26,21 @@ pub(crate) fn joined(alloc: Global, pieces: &[&[u8]]) -> Result<Vec<u8>, AllocEr
     Ok(text)
 }
 
+/// The script that a text is, as it is run.
+fn script_of(alloc: Global, gathers: bool, text: &[u8]) -> Result<Script, Fail>
+    ensures { IfOk result (λ script. IsPlayable script.minor (phases_of script.phases)) }
+{
+    let script = match parse(alloc, text) {
+        Ok(script) => script,
+        Err(ScriptFault::Bad { .. }) => return Err(Fail::new("no script")),
+        Err(ScriptFault::WantMemory) => return Err(Fail::new("no memory")),
+    };
+    match shown_script(alloc, gathers, script) {
+        Ok(script) => Ok(script),
+        Err(_) => Err(Fail::new("no memory")),
+    }
+}
+
 /// Runs the script that a text is, and gives what is refused, if anything is, and the log.
 pub(crate) fn record<R: Threads + Wait + Sync, G: Gate + Sync>(
     rt: &R,
@@ -29,11 +48,18 @@ pub(crate) fn record<R: Threads + Wait + Sync, G: Gate + Sync>(
     gate: &G,
     text: &[u8],
 ) -> Result<(Option<Refusal>, Log), Fail> {
-    let script = match parse(alloc, text) {
-        Ok(script) => script,
-        Err(ScriptFault::Bad { .. }) => return Err(Fail::new("no script")),
-        Err(ScriptFault::WantMemory) => return Err(Fail::new("no memory")),
-    };
+    run(rt, alloc, gate, false, text)
+}
+
+/// The same, with the writes of its threads gathered where that is asked for.
+pub(crate) fn run<R: Threads + Wait + Sync, G: Gate + Sync>(
+    rt: &R,
+    alloc: Global,
+    gate: &G,
+    gathers: bool,
+    text: &[u8],
+) -> Result<(Option<Refusal>, Log), Fail> {
+    let script = script_of(alloc, gathers, text)?;
     match record_script(rt, alloc, gate, &script) {
         Outcome::Done { log } => Ok((None, log)),
         Outcome::Refused {

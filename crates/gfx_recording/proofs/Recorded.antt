@@ -1,5 +1,5 @@
 -- What a recording tells by its answer.
-use Rattle.std.proofs.Common.{◌≡◌, ◌⊎◌, ◌<◌, ◌≤◌, ◌+◌, ℕ, List, [], ◌++◌, length, Option, Result, Ok, Err, Some, None, inl, inr, refl, sym, ap, subst, ◌∙◌, arith, append-nil, length-append}
+use Rattle.std.proofs.Common.{◌≡◌, ◌⊎◌, ◌<◌, ◌≤◌, ◌+◌, ℕ, Bool, List, [], ◌++◌, length, Option, Result, Ok, Err, Some, None, inl, inr, refl, sym, ap, subst, ◌∙◌, arith, append-nil, length-append}
 use Rattle.std.specs.Prelude.{IfSome}
 use Rattle.std.specs.Io.KnownBytes.{Consumes, IsAtEnd}
 use Rattle.gfx_io.specs.Told.{IfTold, IsTold}
@@ -9,6 +9,7 @@ use Rattle.gfx_script_model.specs.Runs.{Safe}
 use Rattle.gfx_script.specs.Kinds.{kind_of}
 use Rattle.gfx_script.specs.State.{ParsesAs}
 use Rattle.gfx_script.specs.declared.kind.ScriptKind.{ScriptKind}
+use Rattle.gfx_gather.specs.Shown.{shown_phases}
 use Rattle.gfx_player.specs.declared.asked.Asked.{Asked}
 use Rattle.gfx_player.specs.declared.asked.Asked.TheVariants.{All, Between}
 use Rattle.gfx_recorder.specs.Outcomes.{IsDone, IsOutcome}
@@ -44,16 +45,16 @@ written_not asked before after ran.WantMemory (BadScript line kind) of w = let e
 written_not asked before after ran.WantMemory ReadFault of w = let e = w.0 in absurd cc
 written_not asked before after outcome _ of w = of
 
-pub recorded : (asked : Asked) (before after : Option (List ℕ)) (result : Result Unit RecordingFault) (bytes rest : List ℕ)
-    → IsRecorded asked before after result bytes rest → Records asked before after result bytes rest
-recorded asked before after (Ok done) bytes rest h = h
-recorded asked before after (Err (BadScript line kind)) bytes rest h = absurd (written_not asked before after h.outcome (BadScript line kind) tt h.wrote)
-recorded asked before after (Err (CallRefused line fault at)) bytes rest h = h
-recorded asked before after (Err (LogFull long wanted)) bytes rest h = h
-recorded asked before after (Err (NoSuchFrame first last)) bytes rest h = h
-recorded asked before after (Err ReadFault) bytes rest h = tt
-recorded asked before after (Err SinkFault) bytes rest h = h
-recorded asked before after (Err WantMemory) bytes rest h = inr h
+pub recorded : (gathers : Bool) (asked : Asked) (before after : Option (List ℕ)) (result : Result Unit RecordingFault) (bytes rest : List ℕ)
+    → IsRecorded gathers asked before after result bytes rest → Records gathers asked before after result bytes rest
+recorded gathers asked before after (Ok done) bytes rest h = h
+recorded gathers asked before after (Err (BadScript line kind)) bytes rest h = absurd (written_not asked before after h.outcome (BadScript line kind) tt h.wrote)
+recorded gathers asked before after (Err (CallRefused line fault at)) bytes rest h = h
+recorded gathers asked before after (Err (LogFull long wanted)) bytes rest h = h
+recorded gathers asked before after (Err (NoSuchFrame first last)) bytes rest h = h
+recorded gathers asked before after (Err ReadFault) bytes rest h = tt
+recorded gathers asked before after (Err SinkFault) bytes rest h = h
+recorded gathers asked before after (Err WantMemory) bytes rest h = inr h
 
 pub written_leaves : (asked : Asked) (before after : Option (List ℕ)) (outcome : Outcome) (result : Result Unit RecordingFault) (P : Type 0)
     → Writes asked before after outcome result → Leaves result P
@@ -67,10 +68,10 @@ written_leaves asked before after outcome (Err SinkFault) P w = tt
 written_leaves asked before after outcome (Err WantMemory) P w = tt
 
 -- nothing was written where the text was not read
-pub unread_records : (asked : Asked) (taken : Option (List ℕ)) (why : RecordingFault) (bytes rest : List ℕ) → IsUnread why → Records asked taken taken (Err why) bytes rest
-unread_records asked taken ReadFault bytes rest un = tt
-unread_records asked taken WantMemory bytes rest un = inl refl
-unread_records asked taken _ bytes rest un = absurd un
+pub unread_records : (gathers : Bool) (asked : Asked) (taken : Option (List ℕ)) (why : RecordingFault) (bytes rest : List ℕ) → IsUnread why → Records gathers asked taken taken (Err why) bytes rest
+unread_records gathers asked taken ReadFault bytes rest un = tt
+unread_records gathers asked taken WantMemory bytes rest un = inl refl
+unread_records gathers asked taken _ bytes rest un = absurd un
 
 pub unread_leaves : (why : RecordingFault) (P : Type 0) → P → Leaves (Err why) P
 unread_leaves (BadScript line kind) P p = p
@@ -102,11 +103,11 @@ whole_text text bytes rest m phases parts ended is =
     sym (parts ∙ ap (λ (z : List ℕ). text ++ z) (ended small) ∙ append-nil text)
 
 -- a script that no call of can be refused
-abbrev safe_of : Parsed → Type 0
-safe_of (parses m phases) = Safe m phases
-safe_of (fails line kind) = Unit {0}
+abbrev safe_of : Bool → Parsed → Type 0
+safe_of gathers (parses m phases) = Safe m (shown_phases gathers phases)
+safe_of gathers (fails line kind) = Unit {0}
 
-module _ (text bytes rest : List ℕ) (parts : bytes ≡ text ++ rest) (ended : length text ≤ max_script → rest ≡ []) (safe : IsSafeText bytes) where
+module _ (gathers : Bool) (text bytes rest : List ℕ) (parts : bytes ≡ text ++ rest) (ended : length text ≤ max_script → rest ≡ []) (safe : IsSafeText gathers bytes) where
   same : text ≡ bytes
   same = whole_text text bytes rest safe.0 safe.1 parts ended safe.2
 
@@ -120,31 +121,31 @@ module _ (text bytes rest : List ℕ) (parts : bytes ≡ text ++ rest) (ended : 
   not_refused asked _ is = absurd is
 
   -- and the script that is read of it is safe
-  safe_script : (m : ℕ) (phases : List (List Part)) → ParsesAs text (parses m phases) → Safe m phases
-  safe_script m phases is = subst safe_of (is.1 (parses safe.0 safe.1) read_so) safe.3
+  safe_script : (m : ℕ) (phases : List (List Part)) → ParsesAs text (parses m phases) → Safe m (shown_phases gathers phases)
+  safe_script m phases is = subst (safe_of gathers) (is.1 (parses safe.0 safe.1) read_so) safe.3
 
-pub text_unstopped : (asked : Asked) (left new : Option (List ℕ)) (text : List ℕ) (why : RecordingFault) → Consumes left new text → (length text ≤ max_script → IsAtEnd new)
-    → IsScriptOf text (Err why) → IsTold left → IfSome left IsSafeText → IsUnstopped asked (Err why)
-text_unstopped asked None new text why reads ended is told safe = absurd told
-text_unstopped asked (Some bytes) None text why reads ended is told safe = absurd reads
-text_unstopped asked (Some bytes) (Some rest) text why reads ended is told safe = not_refused text bytes rest reads ended safe asked why is
+pub text_unstopped : (gathers : Bool) (asked : Asked) (left new : Option (List ℕ)) (text : List ℕ) (why : RecordingFault) → Consumes left new text → (length text ≤ max_script → IsAtEnd new)
+    → IsScriptOf text (Err why) → IsTold left → IfSome left (IsSafeText gathers) → IsUnstopped asked (Err why)
+text_unstopped gathers asked None new text why reads ended is told safe = absurd told
+text_unstopped gathers asked (Some bytes) None text why reads ended is told safe = absurd reads
+text_unstopped gathers asked (Some bytes) (Some rest) text why reads ended is told safe = not_refused gathers text bytes rest reads ended safe asked why is
 
-pub script_safe : (left new : Option (List ℕ)) (text : List ℕ) (m : ℕ) (phases : List (List Part)) → Consumes left new text → (length text ≤ max_script → IsAtEnd new)
-    → ParsesAs text (parses m phases) → IsTold left → IfSome left IsSafeText → Safe m phases
-script_safe None new text m phases reads ended is told safe = absurd told
-script_safe (Some bytes) None text m phases reads ended is told safe = absurd reads
-script_safe (Some bytes) (Some rest) text m phases reads ended is told safe = safe_script text bytes rest reads ended safe m phases is
+pub script_safe : (gathers : Bool) (left new : Option (List ℕ)) (text : List ℕ) (m : ℕ) (phases : List (List Part)) → Consumes left new text → (length text ≤ max_script → IsAtEnd new)
+    → ParsesAs text (parses m phases) → IsTold left → IfSome left (IsSafeText gathers) → Safe m (shown_phases gathers phases)
+script_safe gathers None new text m phases reads ended is told safe = absurd told
+script_safe gathers (Some bytes) None text m phases reads ended is told safe = absurd reads
+script_safe gathers (Some bytes) (Some rest) text m phases reads ended is told safe = safe_script gathers text bytes rest reads ended safe m phases is
 
 -- what a run left and what was written of it
-pub run_told : (asked : Asked) (left new before after : Option (List ℕ)) (text : List ℕ) (m : ℕ) (phases : List (List Part)) (outcome : Outcome) (result : Result Unit RecordingFault)
-    → Consumes left new text → (length text ≤ max_script → IsAtEnd new) → Parses text (parses m phases) → IsOutcome m phases outcome → LeftMeans outcome → Writes asked before after outcome result
-    → IfTold left new (Records asked before after result)
-run_told asked None new before after text m phases outcome result reads ended is ran means wrote = tt
-run_told asked (Some bytes) None before after text m phases outcome result reads ended is ran means wrote = absurd reads
-run_told asked (Some bytes) (Some rest) before after text m phases outcome result reads ended is ran means wrote =
+pub run_told : (gathers : Bool) (asked : Asked) (left new before after : Option (List ℕ)) (text : List ℕ) (m : ℕ) (phases : List (List Part)) (outcome : Outcome) (result : Result Unit RecordingFault)
+    → Consumes left new text → (length text ≤ max_script → IsAtEnd new) → Parses text (parses m phases) → IsOutcome m (shown_phases gathers phases) outcome → LeftMeans outcome → Writes asked before after outcome result
+    → IfTold left new (Records gathers asked before after result)
+run_told gathers asked None new before after text m phases outcome result reads ended is ran means wrote = tt
+run_told gathers asked (Some bytes) None before after text m phases outcome result reads ended is ran means wrote = absurd reads
+run_told gathers asked (Some bytes) (Some rest) before after text m phases outcome result reads ended is ran means wrote =
     let none : rest ≡ [] = ended (parses_small text m phases is) in
     let whole : bytes ≡ text = reads ∙ ap (λ (z : List ℕ). text ++ z) none ∙ append-nil text in
-    recorded asked before after result bytes rest (record {
+    recorded gathers asked before after result bytes rest (record {
       read = none;
       minor = m;
       phases = phases;

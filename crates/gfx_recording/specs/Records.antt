@@ -1,5 +1,5 @@
 -- What a recording answers, and what was written.
-use Rattle.std.specs.Prelude.{◌≡◌, ◌⊎◌, ◌≤◌, ℕ, List, [], ◌++◌, length, Option, Result, Ok, Err, ⊤}
+use Rattle.std.specs.Prelude.{◌≡◌, ◌⊎◌, ◌≤◌, ℕ, Bool, List, [], ◌++◌, length, Option, Result, Ok, Err, ⊤}
 use Rattle.gfx_model.specs.Limits.{max_script}
 use Rattle.gfx_script_model.specs.Scripts.{Part, Parses, parses, fails}
 use Rattle.gfx_script_model.specs.Runs.{Safe}
@@ -8,6 +8,7 @@ use Rattle.gfx_script.specs.Line.{phases_of}
 use Rattle.gfx_script.specs.State.{ParsesAs}
 use Rattle.gfx_script.specs.declared.script.Script.{Script}
 use Rattle.gfx_script.specs.declared.kind.ScriptKind.{ScriptKind}
+use Rattle.gfx_gather.specs.Shown.{shown_phases}
 use Rattle.gfx_log_law.specs.Logs.{log_file}
 use Rattle.gfx_player.specs.declared.asked.Asked.{Asked}
 use Rattle.gfx_player.specs.declared.asked.Asked.TheVariants.{Between}
@@ -56,23 +57,23 @@ LeftMeans ran.WantMemory = ⊤
 
 -- ---- the recording
 
--- the source was read to its end, its text is a script, which was run, the log that the run left is a file of its history, and this is what was written of it
-pub record IsRecorded (asked : Asked) (before after : Option (List ℕ)) (result : Result Unit RecordingFault) (bytes rest : List ℕ) : Type 0 where
+-- the source was read to its end, its text is a script, which was run, with writes gathered where that is asked for, the log that the run left is a file of its history, and this is what was written of it
+pub record IsRecorded (gathers : Bool) (asked : Asked) (before after : Option (List ℕ)) (result : Result Unit RecordingFault) (bytes rest : List ℕ) : Type 0 where
   pub read : rest ≡ []
   pub minor : ℕ
   pub phases : List (List Part)
   pub parses : Parses bytes (parses minor phases)
   pub outcome : Outcome
-  pub ran : IsOutcome minor phases outcome
+  pub ran : IsOutcome minor (shown_phases gathers phases) outcome
   pub means : LeftMeans outcome
   pub wrote : Writes asked before after outcome result
 
 -- how a recording ends
-abbrev pub Records : Asked → Option (List ℕ) → Option (List ℕ) → Result Unit RecordingFault → List ℕ → List ℕ → Type 0
-Records asked before after (Err (BadScript line kind)) bytes rest = IsBadScript line kind bytes rest
-Records asked before after (Err ReadFault) bytes rest = ⊤
-Records asked before after (Err WantMemory) bytes rest = (after ≡ before) ⊎ IsRecorded asked before after (Err WantMemory) bytes rest
-Records asked before after result bytes rest = IsRecorded asked before after result bytes rest
+abbrev pub Records : Bool → Asked → Option (List ℕ) → Option (List ℕ) → Result Unit RecordingFault → List ℕ → List ℕ → Type 0
+Records gathers asked before after (Err (BadScript line kind)) bytes rest = IsBadScript line kind bytes rest
+Records gathers asked before after (Err ReadFault) bytes rest = ⊤
+Records gathers asked before after (Err WantMemory) bytes rest = (after ≡ before) ⊎ IsRecorded gathers asked before after (Err WantMemory) bytes rest
+Records gathers asked before after result bytes rest = IsRecorded gathers asked before after result bytes rest
 
 -- nothing was written where the text is no script or was not read
 abbrev pub Leaves : Result Unit RecordingFault → Type 0 → Type 0
@@ -80,9 +81,9 @@ Leaves (Err (BadScript line kind)) unwritten = unwritten
 Leaves (Err ReadFault) unwritten = unwritten
 Leaves _ unwritten = ⊤
 
--- a text that is a script no call of which can be refused
-abbrev pub IsSafeText : List ℕ → Type 0
-IsSafeText text = (minor : ℕ) × (phases : List (List Part)) × Parses text (parses minor phases) × Safe minor phases
+-- a text that is a script no call of which can be refused, with writes gathered where that is asked for
+abbrev pub IsSafeText : Bool → List ℕ → Type 0
+IsSafeText gathers text = (minor : ℕ) × (phases : List (List Part)) × Parses text (parses minor phases) × Safe minor (shown_phases gathers phases)
 
 -- nothing but want of memory stopped the recording, or that a frame isn't there which is asked for
 abbrev pub IsUnstopped : Asked → Result Unit RecordingFault → Type 0

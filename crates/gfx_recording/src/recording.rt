@@ -7,7 +7,7 @@ ghost use Rattle.gfx_recording.specs.Writing.{IsOrdered};
 
 use crate::RecordingFault;
 use crate::outcome::write_outcome;
-use crate::script::read_script;
+use crate::script::{read_script, run_as};
 use crate::text::read_text;
 use gfx_io::{Gate, Sink, Source};
 use gfx_player::Asked;
@@ -16,20 +16,21 @@ use std::alloc::Global;
 use std::sync::Wait;
 use std::thread::Threads;
 
-/// Reads a script to its end, runs its threads, and writes the log that they leave: whole, or cut to the frames that are asked
-/// for where each call was accepted. It may wait.
+/// Reads a script to its end, runs its threads, with their writes gathered where that is asked for, and writes the log that they
+/// leave: whole, or cut to the frames that are asked for where each call was accepted. It may wait.
 pub fn record<R: Threads + Wait + Sync, S: Source, K: Sink, G: Gate + Sync>(
     rt: &R,
     alloc: Global,
+    gathers: bool,
     asked: Asked,
     source: &mut S,
     sink: &mut K,
     gate: &G,
 ) -> Result<(), RecordingFault>
     requires { IsOrdered asked }
-    ensures told { IfTold (S.left source.old) (S.left source.new) (Records asked (K.taken sink.old) (K.taken sink.new) result) }
+    ensures told { IfTold (S.left source.old) (S.left source.new) (Records gathers asked (K.taken sink.old) (K.taken sink.new) result) }
     ensures leaves { Leaves result (sink.new ≡ sink.old) }
-    ensures complete { IsTold (S.left source.old) → IfSome (S.left source.old) IsSafeText → ¬ Rose (S.faults source.old) (S.faults source.new)
+    ensures complete { IsTold (S.left source.old) → IfSome (S.left source.old) (IsSafeText gathers) → ¬ Rose (S.faults source.old) (S.faults source.new)
         → ¬ Rose (K.faults sink.old) (K.faults sink.new) → IsUnstopped asked result }
     ensures read_fault { result ≡ Err RecordingFault.ReadFault → Rose (S.faults source.old) (S.faults source.new) }
     ensures sink_fault { result ≡ Err RecordingFault.SinkFault → Rose (K.faults sink.old) (K.faults sink.new) }
@@ -37,6 +38,7 @@ pub fn record<R: Threads + Wait + Sync, S: Source, K: Sink, G: Gate + Sync>(
 {
     let text = read_text(alloc, source)?;
     let script = read_script(alloc, text.as_slice())?;
-    let outcome = record_script(rt, alloc, gate, &script);
+    let shown = run_as(alloc, gathers, script)?;
+    let outcome = record_script(rt, alloc, gate, &shown);
     write_outcome(alloc, asked, outcome, sink)
 }

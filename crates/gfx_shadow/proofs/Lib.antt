@@ -1,0 +1,16 @@
+pub mod Bytes
+pub mod Fills
+pub mod Puts
+pub mod Serve
+pub mod First
+pub mod Pastes
+pub mod CellBytes
+pub mod Rows
+pub mod Adding
+pub mod MemoryRows
+pub mod Keys
+pub mod Places
+pub mod Indexed
+pub mod WindowBytes
+pub mod Renamed
+pub mod Longest
