@@ -1,8 +1,9 @@
 -- What the end of a recording allows, by its text.
-use Rattle.std.proofs.Common.{◌≡◌, ◌⊎◌, inl, inr, ◌≤◌, ℕ, List, [], ◌++◌, length, Option, Some, None, Err, refl, sym, ap, subst, ◌∙◌, arith, length-append}
+use Rattle.std.proofs.Common.{◌≡◌, ◌⊎◌, inl, inr, ◌≤◌, ℕ, Bool, List, [], ◌++◌, length, Option, Some, None, Err, refl, sym, ap, subst, ◌∙◌, arith, length-append}
 use Rattle.std.proofs.lemmas.List.{append-nil}
 use Rattle.gfx_io.specs.Told.{IfTold}
 use Rattle.gfx_io.proofs.Appending.{whole_part}
+use Rattle.gfx_gather.specs.Shown.{shown_phases}
 use Rattle.gfx_log_law.specs.Logs.{log_file}
 use Rattle.gfx_model.specs.Limits.{max_script}
 use Rattle.gfx_script_model.specs.Scripts.{Part, Parses, parses, fails}
@@ -14,6 +15,7 @@ use Rattle.gfx_recording.specs.Records.{IsBadScript, Leaves}
 use Rattle.gfx_recording.specs.declared.fault.RecordingFault.{RecordingFault}
 use Rattle.gfx_recording.specs.declared.fault.RecordingFault.TheVariants.{BadScript, CallRefused, LogFull, NoSuchFrame, ReadFault, SinkFault, WantMemory}
 use Rattle.gfx_words.specs.declared.range.FrameRange.{FrameRange}
+use Rattle.gfx_words.specs.declared.recording.Recording.{Recording}
 use Rattle.gfx_cli.specs.Captures.{Ends, IsFault, IsRun, IsWhole, Lacks, TookFront}
 
 -- ---- a text that is no script
@@ -29,8 +31,8 @@ one_kind NameTaken NameTaken same = refl
 one_kind a b same = absurd cc
 
 -- such a text is not run
-pub not_run : (P : ℕ → List (List Part) → List Entry → Type 0) (line : ℕ) (kind : ScriptKind) (bytes rest : List ℕ) → IsFault line kind bytes → IsRun P bytes rest → ⊥
-not_run P line kind bytes rest fault is = let e : parses is.minor is.phases ≡ fails line (kind_of kind) = fault.fails.1 (parses is.minor is.phases) is.parses in absurd cc
+pub not_run : (gathers : Bool) (P : ℕ → List (List Part) → List Entry → Type 0) (line : ℕ) (kind : ScriptKind) (bytes rest : List ℕ) → IsFault line kind bytes → IsRun gathers P bytes rest → ⊥
+not_run gathers P line kind bytes rest fault is = let e : parses is.minor is.phases ≡ fails line (kind_of kind) = fault.fails.1 (parses is.minor is.phases) is.parses in absurd cc
 
 -- all of a text that is no longer than a script was read
 all_read : (text bytes rest : List ℕ) → length bytes ≤ max_script → bytes ≡ text ++ rest → (length text ≤ max_script → rest ≡ []) → text ≡ bytes
@@ -48,45 +50,45 @@ same_bad line other kind wrong bytes rest fault is =
     let kinds : kind_of wrong ≡ kind_of kind = cc same in
     ap (λ n. BadScript n wrong) lines ∙ ap (BadScript line) (one_kind wrong kind kinds)
 
-pub bad_ends : (frames : Option FrameRange) (before after : Option (List ℕ)) (why : RecordingFault) (line : ℕ) (kind : ScriptKind) (bytes rest : List ℕ) → IsFault line kind bytes
-    → Ends frames before after (Err why) bytes rest → ¬ (why ≡ ReadFault) → ¬ (why ≡ SinkFault) → (why ≡ WantMemory) ⊎ (why ≡ BadScript line kind)
-bad_ends frames before after (BadScript other wrong) line kind bytes rest fault is reads writes = inr (same_bad line other kind wrong bytes rest fault is)
-bad_ends frames before after (CallRefused number why at) line kind bytes rest fault is reads writes = absurd (not_run _ line kind bytes rest fault is)
-bad_ends frames before after (LogFull long wanted) line kind bytes rest fault is reads writes = absurd (not_run _ line kind bytes rest fault is)
-bad_ends frames before after (NoSuchFrame first last) line kind bytes rest fault is reads writes = absurd (not_run _ line kind bytes rest fault is)
-bad_ends frames before after ReadFault line kind bytes rest fault is reads writes = absurd (reads refl)
-bad_ends frames before after SinkFault line kind bytes rest fault is reads writes = absurd (writes refl)
-bad_ends frames before after WantMemory line kind bytes rest fault is reads writes = inl refl
+pub bad_ends : (r : Recording) (before after : Option (List ℕ)) (why : RecordingFault) (line : ℕ) (kind : ScriptKind) (bytes rest : List ℕ) → IsFault line kind bytes
+    → Ends r before after (Err why) bytes rest → ¬ (why ≡ ReadFault) → ¬ (why ≡ SinkFault) → (why ≡ WantMemory) ⊎ (why ≡ BadScript line kind)
+bad_ends r before after (BadScript other wrong) line kind bytes rest fault is reads writes = inr (same_bad line other kind wrong bytes rest fault is)
+bad_ends r before after (CallRefused number why at) line kind bytes rest fault is reads writes = absurd (not_run r.gathers _ line kind bytes rest fault is)
+bad_ends r before after (LogFull long wanted) line kind bytes rest fault is reads writes = absurd (not_run r.gathers _ line kind bytes rest fault is)
+bad_ends r before after (NoSuchFrame first last) line kind bytes rest fault is reads writes = absurd (not_run r.gathers _ line kind bytes rest fault is)
+bad_ends r before after ReadFault line kind bytes rest fault is reads writes = absurd (reads refl)
+bad_ends r before after SinkFault line kind bytes rest fault is reads writes = absurd (writes refl)
+bad_ends r before after WantMemory line kind bytes rest fault is reads writes = inl refl
 
 -- ---- a front of what is written
 
 -- of a run that is so, so it is in other words
-run_weaker : (P Q : ℕ → List (List Part) → List Entry → Type 0) (bytes rest : List ℕ) → ((m : ℕ) (phases : List (List Part)) (log : List Entry) → P m phases log → Q m phases log)
-    → IsRun P bytes rest → IsRun Q bytes rest
-run_weaker P Q bytes rest weaker is = record { read = is.read; minor = is.minor; phases = is.phases; parses = is.parses; log = is.log; means = is.means; so = weaker is.minor is.phases is.log is.so }
+run_weaker : (gathers : Bool) (P Q : ℕ → List (List Part) → List Entry → Type 0) (bytes rest : List ℕ) → ((m : ℕ) (phases : List (List Part)) (log : List Entry) → P m phases log → Q m phases log)
+    → IsRun gathers P bytes rest → IsRun gathers Q bytes rest
+run_weaker gathers P Q bytes rest weaker is = record { read = is.read; minor = is.minor; phases = is.phases; parses = is.parses; log = is.log; means = is.means; so = weaker is.minor (shown_phases gathers is.phases) is.log is.so }
 
 lack_front : (frames : Option FrameRange) (before after : Option (List ℕ)) (first last m : ℕ) (phases : List (List Part)) (log : List Entry)
     → IsWhole m phases log × Lacks frames before after first last (log_file m log) → TookFront frames before after m phases log
 lack_front None before after first last m phases log (whole, lacks) = absurd lacks
 lack_front (Some r) before after first last m phases log (whole, lacks) = inl (whole, whole_part before after _ lacks.file)
 
-front_of : (frames : Option FrameRange) (before after : Option (List ℕ)) (why : RecordingFault) (bytes rest : List ℕ)
-    → Ends frames before after (Err why) bytes rest → Leaves (Err why) (after ≡ before)
-    → (after ≡ before) ⊎ IsRun (TookFront frames before after) bytes rest
-front_of frames before after (BadScript number kind) bytes rest is none = inl none
-front_of frames before after (CallRefused number why at) bytes rest is none = inr (run_weaker _ _ bytes rest (λ m phases log p. inr (p.0.halted, whole_part before after _ p.1)) is)
-front_of frames before after (LogFull long wanted) bytes rest is none = inr (run_weaker _ _ bytes rest (λ m phases log p. inr (p.0.halted, whole_part before after _ p.1)) is)
-front_of frames before after (NoSuchFrame first last) bytes rest is none = inr (run_weaker _ _ bytes rest (lack_front frames before after first last) is)
-front_of frames before after ReadFault bytes rest is none = inl none
-front_of frames before after SinkFault bytes rest is none = inr is
-front_of frames before after WantMemory bytes rest is none = is
+front_of : (r : Recording) (before after : Option (List ℕ)) (why : RecordingFault) (bytes rest : List ℕ)
+    → Ends r before after (Err why) bytes rest → Leaves (Err why) (after ≡ before)
+    → (after ≡ before) ⊎ IsRun r.gathers (TookFront r.frames before after) bytes rest
+front_of r before after (BadScript number kind) bytes rest is none = inl none
+front_of r before after (CallRefused number why at) bytes rest is none = inr (run_weaker r.gathers _ _ bytes rest (λ m phases log p. inr (p.0.halted, whole_part before after _ p.1)) is)
+front_of r before after (LogFull long wanted) bytes rest is none = inr (run_weaker r.gathers _ _ bytes rest (λ m phases log p. inr (p.0.halted, whole_part before after _ p.1)) is)
+front_of r before after (NoSuchFrame first last) bytes rest is none = inr (run_weaker r.gathers _ _ bytes rest (lack_front r.frames before after first last) is)
+front_of r before after ReadFault bytes rest is none = inl none
+front_of r before after SinkFault bytes rest is none = inr is
+front_of r before after WantMemory bytes rest is none = is
 
 -- nothing was written, or a front of what is written of the log
-pub front_told : (frames : Option FrameRange) (before after left rest : Option (List ℕ)) (why : RecordingFault) → IfTold left rest (Ends frames before after (Err why))
-    → Leaves (Err why) (after ≡ before) → (after ≡ before) ⊎ IfTold left rest (IsRun (TookFront frames before after))
-front_told frames before after None rest why ends none = inr tt
-front_told frames before after (Some bytes) None why ends none = absurd ends
-front_told frames before after (Some bytes) (Some more) why ends none = front_of frames before after why bytes more ends none
+pub front_told : (r : Recording) (before after left rest : Option (List ℕ)) (why : RecordingFault) → IfTold left rest (Ends r before after (Err why))
+    → Leaves (Err why) (after ≡ before) → (after ≡ before) ⊎ IfTold left rest (IsRun r.gathers (TookFront r.frames before after))
+front_told r before after None rest why ends none = inr tt
+front_told r before after (Some bytes) None why ends none = absurd ends
+front_told r before after (Some bytes) (Some more) why ends none = front_of r before after why bytes more ends none
 
 -- what leaves a sink as it was leaves what it took
 pub leaves_taken : (why : RecordingFault) (P Q : Type 0) → (P → Q) → Leaves (Err why) P → Leaves (Err why) Q

@@ -8,3 +8,4 @@ pub mod CaptureEnds
 pub mod CaptureTelling
 pub mod Choosing
 pub mod Promising
+pub mod Fanning

@@ -1,5 +1,5 @@
 -- How a recording of the frames that are asked for ends.
-use Rattle.std.proofs.Common.{◌≡◌, ◌≢◌, ◌⊎◌, inl, inr, ℕ, List, length, Option, Some, None, Result, Ok, Err, sym, subst}
+use Rattle.std.proofs.Common.{◌≡◌, ◌≢◌, ◌⊎◌, inl, inr, ℕ, Bool, List, length, Option, Some, None, Result, Ok, Err, sym, subst}
 use Rattle.std.specs.Io.KnownBytes.{Appends}
 use Rattle.gfx_io.specs.Pieces.{AppendsPart}
 use Rattle.gfx_types.specs.declared.names.Fault.{Fault}
@@ -7,6 +7,7 @@ use Rattle.gfx_script_model.specs.Scripts.{Part}
 use Rattle.gfx_script_model.specs.Runs.{Entry}
 use Rattle.gfx_player.specs.declared.asked.Asked.{Asked}
 use Rattle.gfx_capture.specs.Log.{Logged}
+use Rattle.gfx_gather.specs.Shown.{shown_phases}
 use Rattle.gfx_log_law.specs.Logs.{log_file}
 use Rattle.gfx_recorder.specs.Outcomes.{IsOutcome, IsRefusedAt, IsFullAt}
 use Rattle.gfx_recorder.specs.declared.outcome.Outcome.{Outcome}
@@ -17,6 +18,7 @@ use Rattle.gfx_recording.specs.declared.fault.RecordingFault.{RecordingFault}
 use Rattle.gfx_recording.specs.declared.fault.RecordingFault.TheVariants.{BadScript, CallRefused, LogFull, NoSuchFrame, ReadFault, SinkFault, WantMemory}
 use Rattle.gfx_trim.specs.Trims.{IsWithout}
 use Rattle.gfx_words.specs.declared.range.FrameRange.{FrameRange}
+use Rattle.gfx_words.specs.declared.recording.Recording.{Recording}
 use Rattle.gfx_words.specs.Commands.{FitsFrames}
 use Rattle.gfx_cli.specs.Captures.{Ends, IsRun, IsWhole, Lacks, Took, TookFront, written_of}
 use Rattle.gfx_cli.specs.Commands.{asked_by}
@@ -146,26 +148,26 @@ memory_by frames before after m phases ran.WantMemory is means wrote = inl wrote
 -- ---- how it ends
 
 -- a script was run, and this is so of what it left
-run_of : (P : ℕ → List (List Part) → List Entry → Type 0) (asked : Asked) (before after : Option (List ℕ)) (end : Result Unit RecordingFault) (bytes rest : List ℕ)
-    → (is : IsRecorded asked before after end bytes rest) → ((log : List Entry) × MeansHistory is.minor log × P is.minor is.phases log) → IsRun P bytes rest
-run_of P asked before after end bytes rest is (log, means, so) = record { read = is.read; minor = is.minor; phases = is.phases; parses = is.parses; log = log; means = means; so = so }
+run_of : (gathers : Bool) (P : ℕ → List (List Part) → List Entry → Type 0) (asked : Asked) (before after : Option (List ℕ)) (end : Result Unit RecordingFault) (bytes rest : List ℕ)
+    → (is : IsRecorded gathers asked before after end bytes rest) → ((log : List Entry) × MeansHistory is.minor log × P is.minor (shown_phases gathers is.phases) log) → IsRun gathers P bytes rest
+run_of gathers P asked before after end bytes rest is (log, means, so) = record { read = is.read; minor = is.minor; phases = is.phases; parses = is.parses; log = log; means = means; so = so }
 
-pub ends_of : (frames : Option FrameRange) (before after : Option (List ℕ)) (end : Result Unit RecordingFault) (bytes rest : List ℕ)
-    → Records (asked_by frames) before after end bytes rest → Ends frames before after end bytes rest
-ends_of frames before after (Ok done) bytes rest is = run_of _ _ before after (Ok tt) bytes rest is (whole_by frames before after is.minor is.phases is.outcome is.ran is.means is.wrote)
-ends_of frames before after (Err (NoSuchFrame first last)) bytes rest is =
-    run_of _ _ before after (Err (NoSuchFrame first last)) bytes rest is (lack_by frames before after first last is.minor is.phases is.outcome is.ran is.means is.wrote)
-ends_of frames before after (Err (CallRefused line fault at)) bytes rest is =
-    run_of _ _ before after (Err (CallRefused line fault at)) bytes rest is (call_by frames before after line fault at is.minor is.phases is.outcome is.ran is.means is.wrote)
-ends_of frames before after (Err (LogFull long wanted)) bytes rest is =
-    run_of _ _ before after (Err (LogFull long wanted)) bytes rest is (full_by frames before after long wanted is.minor is.phases is.outcome is.ran is.means is.wrote)
-ends_of frames before after (Err (BadScript line kind)) bytes rest is = is
-ends_of frames before after (Err ReadFault) bytes rest is = tt
-ends_of frames before after (Err SinkFault) bytes rest is =
-    run_of _ _ before after (Err SinkFault) bytes rest is (sink_by frames before after is.minor is.phases is.outcome is.ran is.means is.wrote)
-ends_of frames before after (Err WantMemory) bytes rest (inl same) = inl same
-ends_of frames before after (Err WantMemory) bytes rest (inr is) =
-    elim (memory_by frames before after is.minor is.phases is.outcome is.ran is.means is.wrote) [
+pub ends_of : (r : Recording) (before after : Option (List ℕ)) (end : Result Unit RecordingFault) (bytes rest : List ℕ)
+    → Records r.gathers (asked_by r.frames) before after end bytes rest → Ends r before after end bytes rest
+ends_of r before after (Ok done) bytes rest is = run_of r.gathers _ _ before after (Ok tt) bytes rest is (whole_by r.frames before after is.minor (shown_phases r.gathers is.phases) is.outcome is.ran is.means is.wrote)
+ends_of r before after (Err (NoSuchFrame first last)) bytes rest is =
+    run_of r.gathers _ _ before after (Err (NoSuchFrame first last)) bytes rest is (lack_by r.frames before after first last is.minor (shown_phases r.gathers is.phases) is.outcome is.ran is.means is.wrote)
+ends_of r before after (Err (CallRefused line fault at)) bytes rest is =
+    run_of r.gathers _ _ before after (Err (CallRefused line fault at)) bytes rest is (call_by r.frames before after line fault at is.minor (shown_phases r.gathers is.phases) is.outcome is.ran is.means is.wrote)
+ends_of r before after (Err (LogFull long wanted)) bytes rest is =
+    run_of r.gathers _ _ before after (Err (LogFull long wanted)) bytes rest is (full_by r.frames before after long wanted is.minor (shown_phases r.gathers is.phases) is.outcome is.ran is.means is.wrote)
+ends_of r before after (Err (BadScript line kind)) bytes rest is = is
+ends_of r before after (Err ReadFault) bytes rest is = tt
+ends_of r before after (Err SinkFault) bytes rest is =
+    run_of r.gathers _ _ before after (Err SinkFault) bytes rest is (sink_by r.frames before after is.minor (shown_phases r.gathers is.phases) is.outcome is.ran is.means is.wrote)
+ends_of r before after (Err WantMemory) bytes rest (inl same) = inl same
+ends_of r before after (Err WantMemory) bytes rest (inr is) =
+    elim (memory_by r.frames before after is.minor (shown_phases r.gathers is.phases) is.outcome is.ran is.means is.wrote) [
       | inl same ↦ inl same
-      | inr left ↦ inr (run_of _ _ before after (Err WantMemory) bytes rest is left)
+      | inr left ↦ inr (run_of r.gathers _ _ before after (Err WantMemory) bytes rest is left)
     ]

@@ -22,7 +22,7 @@ pub record KeepsCapture {S K N : Type 0} (words : List (List ℕ)) (source : See
   pub usage : result ≡ status.Usage → IsUnasked words × Appends notes.bytes_before notes.bytes_now usage_line
   pub refused : IsUnasked words → ((result ≡ status.Usage) ⊎ (result ≡ status.WriteFault)) × (source.now ≡ source.before) × (sink.now ≡ sink.before)
   pub done : result ≡ status.Done → Captures words source.bytes_before source.bytes_now sink.bytes_before sink.bytes_now (Ok tt) × (notes.now ≡ notes.before)
-  pub complete : (recording : Recording) → IsAsked words recording → IsTold source.bytes_before → IfSome source.bytes_before IsSafeText
+  pub complete : (recording : Recording) → IsAsked words recording → IsTold source.bytes_before → IfSome source.bytes_before (IsSafeText recording.gathers)
       → ¬ Failed source → ¬ Failed sink → ¬ Failed notes → IsUnstoppedAt recording.frames result
   pub bad_script : result ≡ status.BadScript → (line : ℕ) × (kind : ScriptKind)
       × Captures words source.bytes_before source.bytes_now sink.bytes_before sink.bytes_now (Err (why.BadScript line kind))

@@ -31,13 +31,13 @@ IsOfCaptures BadListing = ⊥
 pub record Captures (words : List (List ℕ)) (left_old left_new taken_old taken_new : Option (List ℕ)) (end : Result Unit RecordingFault) : Type 0 where
   pub recording : Recording
   pub asked : IsAsked words recording
-  pub ends : IfTold left_old left_new (Ends recording.frames taken_old taken_new end)
+  pub ends : IfTold left_old left_new (Ends recording taken_old taken_new end)
 
 -- the words ask for a recording, and the sink took a front of what is written of a log of the script
 pub record LeavesFront (words : List (List ℕ)) (left_old left_new taken_old taken_new : Option (List ℕ)) : Type 0 where
   pub recording : Recording
   pub asked : IsAsked words recording
-  pub front : IfTold left_old left_new (IsRun (TookFront recording.frames taken_old taken_new))
+  pub front : IfTold left_old left_new (IsRun recording.gathers (TookFront recording.frames taken_old taken_new))
 
 -- the line that is noted, where there is a reason for it
 pub data IsCaptureNote (words : List (List ℕ)) (left_old left_new taken_old taken_new : Option (List ℕ)) (reads : Failures) : List ℕ → Type 0 where

@@ -1,5 +1,5 @@
 -- How a recording ends, over the bytes that the source had left and has left.
-use Rattle.std.specs.Prelude.{◌≡◌, ◌⊎◌, ◌≤◌, ℕ, true, List, [], length, Option, Some, None, Result, Ok, Err, ⊤}
+use Rattle.std.specs.Prelude.{◌≡◌, ◌⊎◌, ◌≤◌, ℕ, Bool, true, List, [], length, Option, Some, None, Result, Ok, Err, ⊤}
 use Rattle.std.specs.Io.KnownBytes.{Appends}
 use Rattle.gfx_io.specs.Pieces.{AppendsPart}
 use Rattle.gfx_model.specs.History.{is_valid}
@@ -9,6 +9,7 @@ use Rattle.gfx_script_model.specs.Runs.{Entry, Matches, history}
 use Rattle.gfx_script.specs.Kinds.{kind_of}
 use Rattle.gfx_script.specs.State.{ParsesAs}
 use Rattle.gfx_script.specs.declared.kind.ScriptKind.{ScriptKind}
+use Rattle.gfx_gather.specs.Shown.{shown_phases}
 use Rattle.gfx_log_law.specs.Logs.{log_file}
 use Rattle.gfx_run_law.specs.Halted.{IsHalted}
 use Rattle.gfx_recorder.specs.Outcomes.{IsRefusedAt, IsFullAt}
@@ -20,19 +21,20 @@ use Rattle.gfx_trim.specs.Keeps.{Keeps}
 use Rattle.gfx_trim.specs.Trims.{IsWithout}
 use Rattle.gfx_trim.specs.Written.{written}
 use Rattle.gfx_words.specs.declared.range.FrameRange.{FrameRange}
+use Rattle.gfx_words.specs.declared.recording.Recording.{Recording}
 use Rattle.gfx_cli.specs.declared.status.Status.{Status}
 use Rattle.gfx_cli.specs.declared.status.Status.TheVariants as status
 use Rattle.gfx_cli.specs.Text.{bad_script_line, refused_line, log_full_line, no_such_frame_line, read_fault_line}
 
--- the source was read to its end, its text is a script, and this is so of the script and of a log, which as a file ends cleanly and shows the frames of its history
-pub record IsRun (P : ℕ → List (List Part) → List Entry → Type 0) (bytes rest : List ℕ) : Type 0 where
+-- the source was read to its end, its text is a script, and this is so of the script, with writes gathered where that is asked for, and of a log, which as a file ends cleanly and shows the frames of its history
+pub record IsRun (gathers : Bool) (P : ℕ → List (List Part) → List Entry → Type 0) (bytes rest : List ℕ) : Type 0 where
   pub read : rest ≡ []
   pub minor : ℕ
   pub phases : List (List Part)
   pub parses : Parses bytes (parses minor phases)
   pub log : List Entry
   pub means : MeansHistory minor log
-  pub so : P minor phases log
+  pub so : P minor (shown_phases gathers phases) log
 
 -- every call was accepted: the log has all lines of the script, and is a valid history
 pub record IsWhole (m : ℕ) (phases : List (List Part)) (log : List Entry) : Type 0 where
@@ -61,19 +63,19 @@ TookFront frames before after m phases log =
     ⊎ (IsHalted m phases log × AppendsPart before after (log_file m log))
 
 -- how a recording ends
-abbrev pub Ends : Option FrameRange → Option (List ℕ) → Option (List ℕ) → Result Unit RecordingFault → List ℕ → List ℕ → Type 0
-Ends frames before after (Ok done) bytes rest =
-    IsRun (λ m phases log. IsWhole m phases log × Took frames before after (log_file m log)) bytes rest
-Ends frames before after (Err (NoSuchFrame first last)) bytes rest =
-    IsRun (λ m phases log. IsWhole m phases log × Lacks frames before after first last (log_file m log)) bytes rest
-Ends frames before after (Err (CallRefused line fault at)) bytes rest =
-    IsRun (λ m phases log. IsRefusedAt m phases log line fault at × Appends before after (log_file m log)) bytes rest
-Ends frames before after (Err (LogFull long wanted)) bytes rest =
-    IsRun (λ m phases log. IsFullAt m phases log long wanted × Appends before after (log_file m log)) bytes rest
-Ends frames before after (Err (BadScript line kind)) bytes rest = IsBadScript line kind bytes rest
-Ends frames before after (Err ReadFault) bytes rest = ⊤
-Ends frames before after (Err SinkFault) bytes rest = IsRun (TookFront frames before after) bytes rest
-Ends frames before after (Err WantMemory) bytes rest = (after ≡ before) ⊎ IsRun (TookFront frames before after) bytes rest
+abbrev pub Ends : Recording → Option (List ℕ) → Option (List ℕ) → Result Unit RecordingFault → List ℕ → List ℕ → Type 0
+Ends r before after (Ok done) bytes rest =
+    IsRun r.gathers (λ m phases log. IsWhole m phases log × Took r.frames before after (log_file m log)) bytes rest
+Ends r before after (Err (NoSuchFrame first last)) bytes rest =
+    IsRun r.gathers (λ m phases log. IsWhole m phases log × Lacks r.frames before after first last (log_file m log)) bytes rest
+Ends r before after (Err (CallRefused line fault at)) bytes rest =
+    IsRun r.gathers (λ m phases log. IsRefusedAt m phases log line fault at × Appends before after (log_file m log)) bytes rest
+Ends r before after (Err (LogFull long wanted)) bytes rest =
+    IsRun r.gathers (λ m phases log. IsFullAt m phases log long wanted × Appends before after (log_file m log)) bytes rest
+Ends r before after (Err (BadScript line kind)) bytes rest = IsBadScript line kind bytes rest
+Ends r before after (Err ReadFault) bytes rest = ⊤
+Ends r before after (Err SinkFault) bytes rest = IsRun r.gathers (TookFront r.frames before after) bytes rest
+Ends r before after (Err WantMemory) bytes rest = (after ≡ before) ⊎ IsRun r.gathers (TookFront r.frames before after) bytes rest
 
 -- a text that is no longer than a script may be is none, and this is its first line with a fault
 pub record IsFault (line : ℕ) (kind : ScriptKind) (bytes : List ℕ) : Type 0 where

@@ -12,3 +12,4 @@ pub mod Seen
 pub mod FilesPromise
 pub mod CapturePromise
 pub mod CommandPromise
+pub mod FanPromise

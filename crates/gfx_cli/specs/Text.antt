@@ -21,7 +21,7 @@ info_text bytes = at_clean (blocks_of bytes).end (counts_text (minor_of bytes) (
 
 -- what is noted where the words name no command
 abbrev pub usage_line : List ℕ
-usage_line = line (codes "usage: gfxcap info; replay [--pixels] [--frames A-B]; trim A-B; capture [--frames A-B]; make N; upgrade; list; unlist")
+usage_line = line (codes "usage: gfxcap info; replay [--pixels] [--frames A-B]; trim A-B; capture [--gather] [--frames A-B]; make N; upgrade; list; unlist; digests")
 
 -- what is noted where a read failed
 abbrev pub read_fault_line : List ℕ
@@ -61,6 +61,7 @@ help_text =
     ++ line (codes "info describes it, replay writes a line with the digest of each frame, with --pixels its rows too,")
     ++ line (codes "and trim writes the capture of these frames alone. make tries the program on a capture of N frames.")
     ++ line (codes "upgrade writes the capture in version 2. list writes it as text, a line for each block, and unlist")
-    ++ line (codes "makes the capture of such a text again.")
-    ++ line (codes "capture runs the script that it reads on threads, and writes the capture of their calls.")
+    ++ line (codes "makes the capture of such a text again. digests writes what replay does, on all processors.")
+    ++ line (codes "capture runs the script that it reads on threads, and writes the capture of their calls, with --gather")
+    ++ line (codes "the writes of a thread as fills before its next submit, unmap or free.")
     ++ line (codes "--help and --version alone write this text and the version.")

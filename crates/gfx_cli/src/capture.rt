@@ -23,7 +23,7 @@ use crate::files::USAGE;
 use crate::notes::note;
 use gfx_io::{Gate, Sink, Source};
 use gfx_recording::{RecordingFault, record};
-use gfx_words::{FrameRange, Recording};
+use gfx_words::Recording;
 use std::alloc::Global;
 use std::sync::Wait;
 use std::thread::Threads;
@@ -41,22 +41,22 @@ fn asked_recording(words: &[String]) -> Option<Recording>
 fn record_frames<R: Threads + Wait + Sync, S: Source, K: Sink, G: Gate + Sync>(
     rt: &R,
     alloc: Global,
-    frames: Option<FrameRange>,
+    recording: Recording,
     source: &mut S,
     sink: &mut K,
     gate: &G,
 ) -> Result<(), RecordingFault>
-    requires { FitsFrames frames }
-    ensures ends { IfTold (S.left source.old) (S.left source.new) (Ends frames (K.taken sink.old) (K.taken sink.new) result) }
+    requires { FitsFrames recording.frames }
+    ensures ends { IfTold (S.left source.old) (S.left source.new) (Ends recording (K.taken sink.old) (K.taken sink.new) result) }
     ensures leaves { Leaves result (sink.new ≡ sink.old) }
-    ensures complete { IsTold (S.left source.old) → IfSome (S.left source.old) IsSafeText → ¬ Rose (S.faults source.old) (S.faults source.new)
-        → ¬ Rose (K.faults sink.old) (K.faults sink.new) → IsUnstopped (asked_by frames) result }
+    ensures complete { IsTold (S.left source.old) → IfSome (S.left source.old) (IsSafeText recording.gathers) → ¬ Rose (S.faults source.old) (S.faults source.new)
+        → ¬ Rose (K.faults sink.old) (K.faults sink.new) → IsUnstopped (asked_by recording.frames) result }
     ensures read_fault { result ≡ Err why.ReadFault → Rose (S.faults source.old) (S.faults source.new) }
     ensures sink_fault { result ≡ Err why.SinkFault → Rose (K.faults sink.old) (K.faults sink.new) }
     ensures later { (S.faults source.old ≤ S.faults source.new) × (K.faults sink.old ≤ K.faults sink.new) }
 {
-    let asked = asked_by(frames);
-    record(rt, alloc, asked, source, sink, gate)
+    let asked = asked_by(recording.frames);
+    record(rt, alloc, recording.gathers, asked, source, sink, gate)
 }
 
 /// Reads a script to its end, runs its threads, and writes the log that they leave, over a source and two sinks. It may wait.
@@ -81,7 +81,7 @@ pub fn run_capture<R: Threads + Wait + Sync, S: Source, K: Sink, N: Sink, G: Gat
         × (notes.new ≡ notes.old) }
 
     // Of a script no call of which can be refused, it comes to this end, or a frame that is asked for isn't in its log.
-    ensures complete { (recording : Recording) → IsAsked (map string_bytes words.now) recording → IsTold (S.left source.old) → IfSome (S.left source.old) IsSafeText
+    ensures complete { (recording : Recording) → IsAsked (map string_bytes words.now) recording → IsTold (S.left source.old) → IfSome (S.left source.old) (IsSafeText recording.gathers)
         → ¬ Rose (S.faults source.old) (S.faults source.new) → ¬ Rose (K.faults sink.old) (K.faults sink.new) → ¬ Rose (N.faults notes.old) (N.faults notes.new)
         → IsUnstoppedAt recording.frames result }
 
@@ -126,7 +126,7 @@ pub fn run_capture<R: Threads + Wait + Sync, S: Source, K: Sink, N: Sink, G: Gat
     let Some(recording) = asked_recording(words) else {
         return note(notes, USAGE, Status::Usage);
     };
-    match record_frames(rt, alloc, recording.frames, source, sink, gate) {
+    match record_frames(rt, alloc, recording, source, sink, gate) {
         Ok(()) => Status::Done,
         Err(fault) => tell_capture(alloc, fault, notes),
     }

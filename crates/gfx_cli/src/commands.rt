@@ -31,13 +31,14 @@ use gfx_words::{Command, FrameRange};
 use std::alloc::Global;
 
 const HELP: &str =
-    "usage: gfxcap info; replay [--pixels] [--frames A-B]; trim A-B; capture [--frames A-B]; make N; upgrade; list; unlist
+    "usage: gfxcap info; replay [--pixels] [--frames A-B]; trim A-B; capture [--gather] [--frames A-B]; make N; upgrade; list; unlist; digests
 A capture is read from standard input, and frames A to B are those with these numbers.
 info describes it, replay writes a line with the digest of each frame, with --pixels its rows too,
 and trim writes the capture of these frames alone. make tries the program on a capture of N frames.
 upgrade writes the capture in version 2. list writes it as text, a line for each block, and unlist
-makes the capture of such a text again.
-capture runs the script that it reads on threads, and writes the capture of their calls.
+makes the capture of such a text again. digests writes what replay does, on all processors.
+capture runs the script that it reads on threads, and writes the capture of their calls, with --gather
+the writes of a thread as fills before its next submit, unmap or free.
 --help and --version alone write this text and the version.
 ";
 

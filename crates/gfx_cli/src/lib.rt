@@ -5,6 +5,7 @@ mod capture;
 mod capture_notes;
 mod commands;
 mod counts;
+mod fan;
 mod files;
 mod info;
 mod notes;
@@ -13,6 +14,7 @@ mod status;
 mod stop;
 
 pub use capture::run_capture;
+pub use fan::run_fan;
 pub use files::run_files;
 pub use program::run;
 pub use status::Status;

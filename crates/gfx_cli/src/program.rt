@@ -1,5 +1,5 @@
 // All commands of the program.
-ghost use Rattle.std.specs.Prelude.{◌≡◌, ◌≢◌, Ok, true, false, codes, map, string_bytes};
+ghost use Rattle.std.specs.Prelude.{◌≡◌, [], Ok, get_or, map, string_bytes};
 ghost use Rattle.gfx_io.specs.Told.{IfTold};
 ghost use Rattle.gfx_trim.specs.Keeps.{Keeps};
 ghost use Rattle.gfx_words.specs.declared.range.FrameRange.{FrameRange};
@@ -7,11 +7,13 @@ ghost use Rattle.gfx_words.specs.declared.recording.Recording.{Recording};
 ghost use Rattle.gfx_words.specs.declared.command.Command.TheVariants.{Trim};
 ghost use Rattle.gfx_cli.specs.CapturePromise.{KeepsCapture};
 ghost use Rattle.gfx_cli.specs.Captures.{Ends};
+ghost use Rattle.gfx_cli.specs.FanPromise.{KeepsFan};
 ghost use Rattle.gfx_cli.specs.FilesPromise.{KeepsFiles};
-ghost use Rattle.gfx_cli.specs.Words.{BeginsCapture, IsAsked, IsNamed};
+ghost use Rattle.gfx_cli.specs.Words.{BeginsCapture, BeginsDigests, IsAsked, IsNamed};
 
 use crate::Status;
 use crate::capture::run_capture;
+use crate::fan::run_fan;
 use crate::files::run_files;
 use gfx_io::{Gate, Sink, Source};
 use std::alloc::Global;
@@ -28,47 +30,45 @@ pub fn run<R: Threads + Wait + Sync, S: Source, K: Sink, N: Sink, G: Gate + Sync
     notes: &mut N,
     gate: &G,
 ) -> Status
-    // What was recorded is a valid history that matches the script, and the sink took its log, or just the frames of a range.
+    // What was recorded is a valid history that matches the script, with writes gathered where that was asked for, and the sink took
+    // its log, or just the frames of a range.
     ensures records { result ≡ Status.Done → (recording : Recording) → IsAsked (map string_bytes words.now) recording
-        → IfTold (S.left source.old) (S.left source.new) (Ends recording.frames (K.taken sink.old) (K.taken sink.new) (Ok tt)) }
+        → IfTold (S.left source.old) (S.left source.new) (Ends recording (K.taken sink.old) (K.taken sink.new) (Ok tt)) }
 
     // Of a file that was cut, the sink took one that ends cleanly and whose frames are exactly those of the range.
     ensures keeps { result ≡ Status.Done → (range : FrameRange) → IsNamed (map string_bytes words.now) (Trim range) → IfTold (S.left source.old) (S.left source.new)
         (λ bytes _. Keeps range.first range.last (K.taken sink.old) (K.taken sink.new) bytes) }
 
-    // Words that begin with `capture` are promised all of `run_capture`, and others all of `run_files`.
+    // Words that begin with `capture` are promised all of `run_capture`, those that begin with `digests` all of `run_fan`, and others all of `run_files`.
     ensures capture { BeginsCapture (map string_bytes words.now) → KeepsCapture (map string_bytes words.now)
         (record { before = source.old; now = source.new; bytes_before = S.left source.old; bytes_now = S.left source.new; faults_before = S.faults source.old; faults_now = S.faults source.new })
         (record { before = sink.old; now = sink.new; bytes_before = K.taken sink.old; bytes_now = K.taken sink.new; faults_before = K.faults sink.old; faults_now = K.faults sink.new })
         (record { before = notes.old; now = notes.new; bytes_before = N.taken notes.old; bytes_now = N.taken notes.new; faults_before = N.faults notes.old; faults_now = N.faults notes.new })
         result }
-    ensures files { ¬ BeginsCapture (map string_bytes words.now) → KeepsFiles (map string_bytes words.now)
+    ensures fan { BeginsDigests (map string_bytes words.now) → KeepsFan (map string_bytes words.now)
+        (record { before = source.old; now = source.new; bytes_before = S.left source.old; bytes_now = S.left source.new; faults_before = S.faults source.old; faults_now = S.faults source.new })
+        (record { before = sink.old; now = sink.new; bytes_before = K.taken sink.old; bytes_now = K.taken sink.new; faults_before = K.faults sink.old; faults_now = K.faults sink.new })
+        (record { before = notes.old; now = notes.new; bytes_before = N.taken notes.old; bytes_now = N.taken notes.new; faults_before = N.faults notes.old; faults_now = N.faults notes.new })
+        result }
+    ensures files { ¬ BeginsCapture (map string_bytes words.now) → ¬ BeginsDigests (map string_bytes words.now) → KeepsFiles (map string_bytes words.now)
         (record { before = source.old; now = source.new; bytes_before = S.left source.old; bytes_now = S.left source.new; faults_before = S.faults source.old; faults_now = S.faults source.new })
         (record { before = sink.old; now = sink.new; bytes_before = K.taken sink.old; bytes_now = K.taken sink.new; faults_before = K.faults sink.old; faults_now = K.faults sink.new })
         (record { before = notes.old; now = notes.new; bytes_before = N.taken notes.old; bytes_now = N.taken notes.new; faults_before = N.faults notes.old; faults_now = N.faults notes.new })
         result }
 {
-    if begins_capture(words) {
-        run_capture(rt, alloc, words, source, sink, notes, gate)
-    } else {
-        run_files(alloc, words, source, sink, notes)
+    match first_word(words) {
+        "capture" => run_capture(rt, alloc, words, source, sink, notes, gate),
+        "digests" => run_fan(rt, alloc, words, source, sink, notes),
+        _ => run_files(alloc, words, source, sink, notes),
     }
 }
 
-/// Whether the first word is that of a recording.
-fn begins_capture(words: &[String]) -> bool
-    ensures yes { result ≡ true → BeginsCapture (map string_bytes words.now) }
-    ensures no { result ≡ false → ¬ BeginsCapture (map string_bytes words.now) }
+/// The first word, or none of its letters where there is no word.
+fn first_word(words: &[String]) -> &str
+    ensures { result.now ≡ get_or (map string_bytes words.now) 0 [] }
 {
     match words {
-        [word, ..] => is_capture(word.as_str()),
-        [] => false,
+        [word, ..] => word.as_str(),
+        [] => "",
     }
-}
-
-fn is_capture(word: &str) -> bool
-    ensures yes { result ≡ true → word.now ≡ codes "capture" }
-    ensures no { result ≡ false → word.now ≢ codes "capture" }
-{
-    word == "capture"
 }

@@ -1,10 +1,11 @@
 //! A run of the program for tests, with all that is outside of it in memory.
 #![tactic(auto)]
 
-use gfx_cli::{Status, run_files};
+use gfx_cli::{Status, run_fan, run_files};
 use gfx_io::{MemSink, MemSource};
 use std::alloc::{AllocError, Global};
 use std::test::Fail;
+use std::thread::Threads;
 
 /// The words that show the rows of all frames.
 pub const PIXELS: &[&str] = &["replay", "--pixels"];
@@ -101,6 +102,19 @@ impl<'a> Outside<'a> {
             notes,
         } = &mut streams;
         let status = run_files(alloc, &words, source, sink, notes);
+        Ok(streams.ended(status))
+    }
+
+    /// How it ends where all processors may work at it.
+    pub fn fan<R: Threads + Sync>(self, rt: &R, alloc: Global) -> Result<Ended, AllocError> {
+        let words = words_of(alloc, self.words)?;
+        let mut streams = self.streams(alloc)?;
+        let Streams {
+            source,
+            sink,
+            notes,
+        } = &mut streams;
+        let status = run_fan(rt, alloc, &words, source, sink, notes);
         Ok(streams.ended(status))
     }
 

@@ -4,16 +4,17 @@ use gfx_outside::Outside;
 use std::test::Fail;
 
 const USAGE: &[u8] =
-    b"usage: gfxcap info; replay [--pixels] [--frames A-B]; trim A-B; capture [--frames A-B]; make N; upgrade; list; unlist\n";
+    b"usage: gfxcap info; replay [--pixels] [--frames A-B]; trim A-B; capture [--gather] [--frames A-B]; make N; upgrade; list; unlist; digests\n";
 
 const HELP: &[u8] =
-    b"usage: gfxcap info; replay [--pixels] [--frames A-B]; trim A-B; capture [--frames A-B]; make N; upgrade; list; unlist
+    b"usage: gfxcap info; replay [--pixels] [--frames A-B]; trim A-B; capture [--gather] [--frames A-B]; make N; upgrade; list; unlist; digests
 A capture is read from standard input, and frames A to B are those with these numbers.
 info describes it, replay writes a line with the digest of each frame, with --pixels its rows too,
 and trim writes the capture of these frames alone. make tries the program on a capture of N frames.
 upgrade writes the capture in version 2. list writes it as text, a line for each block, and unlist
-makes the capture of such a text again.
-capture runs the script that it reads on threads, and writes the capture of their calls.
+makes the capture of such a text again. digests writes what replay does, on all processors.
+capture runs the script that it reads on threads, and writes the capture of their calls, with --gather
+the writes of a thread as fills before its next submit, unmap or free.
 --help and --version alone write this text and the version.
 ";
 
@@ -57,7 +58,11 @@ const OTHERS: [&[&str]; 20] = [
 ];
 
 /// Words of a recording, which is no command over files.
-const RECORDINGS: [&[&str]; 2] = [&["capture"], &["capture", "--frames", "1-1"]];
+const RECORDINGS: [&[&str]; 3] = [
+    &["capture"],
+    &["capture", "--gather"],
+    &["capture", "--gather", "--frames", "1-1"],
+];
 
 #[test]
 fn words_outside_the_grammar_are_answered_by_the_usage_line(rt: HostRuntime) -> Result<(), Fail> {

@@ -1,5 +1,5 @@
 -- Words name at most one command.
-use Rattle.std.proofs.Common.{◌≡◌, ℕ, ◌==◌, Bool, true, false, List, [], length, get_or, Option, Some, None, refl, sym, ap, ◌∙◌, arith}
+use Rattle.std.proofs.Common.{◌≡◌, ℕ, ◌+◌, ◌==◌, Bool, true, false, List, [], length, get_or, Option, Some, None, refl, sym, ap, ◌∙◌, arith}
 use Rattle.std.specs.Prelude.{IfSome}
 use Rattle.std.specs.List.{before_first, after_first}
 use Rattle.std.proofs.lemmas.Fmt.{decimal_injective}
@@ -8,7 +8,7 @@ use Rattle.gfx_words.specs.declared.command.Command.{Command}
 use Rattle.gfx_words.specs.declared.command.Command.TheVariants.{Info, Replay, Trim, Upgrade, List as Lists, Unlist as Unlists, Make, Help, Version}
 use Rattle.gfx_words.specs.Words.{range_text, FitsRange}
 use Rattle.gfx_words.specs.declared.recording.Recording.{Recording}
-use Rattle.gfx_words.specs.Commands.{recording_words, words_of, Fits, FitsFrames}
+use Rattle.gfx_words.specs.Commands.{frames_words, recording_words, words_of, Fits, FitsFrames}
 use Rattle.gfx_words.proofs.Ranges.{range_cut}
 
 one_range : (r s : FrameRange) → FitsRange r → FitsRange s → range_text r ≡ range_text s → s ≡ r
@@ -64,14 +64,30 @@ pub only_one : (words : List (List ℕ)) (found : Option Command) → IfSome fou
 only_one words None some = tt
 only_one words (Some c) some = λ other fits is. one_command c other some.1 fits (sym some.0 ∙ is)
 
-one_recording : (r s : Option FrameRange) → FitsFrames r → FitsFrames s → recording_words (record { frames = r }) ≡ recording_words (record { frames = s }) → s ≡ r
-one_recording None None of_r of_s is = refl
-one_recording (Some r) None of_r of_s is = absurd (let n = ap length is in omega (arith, n))
-one_recording None (Some s) of_r of_s is = absurd (let n = ap length is in omega (arith, n))
-one_recording (Some r) (Some s) of_r of_s is = ap Some (one_range r s of_r of_s (ap (word_at 2) is))
+abbrev recording_of : Bool → Option FrameRange → Recording
+recording_of gathers frames = record { gathers = gathers; frames = frames }
+
+-- two recordings of frames, each with its writes gathered or not
+abbrev IsOneRecording : Bool → Bool → Option FrameRange → Option FrameRange → Type 0
+IsOneRecording p q r s = FitsFrames r → FitsFrames s → recording_words (recording_of p r) ≡ recording_words (recording_of q s)
+    → recording_of q s ≡ recording_of p r
+
+-- the words that ask for a range are none or two
+two_words : (r : Option FrameRange) → (k : ℕ) × (length (frames_words r) ≡ k + k)
+two_words None = (0, refl)
+two_words (Some r) = (1, refl)
+
+one_recording : (p q : Bool) (r s : Option FrameRange) → IsOneRecording p q r s
+one_recording false false None None of_r of_s is = refl
+one_recording true true None None of_r of_s is = refl
+one_recording false false (Some r) (Some s) of_r of_s is = ap (λ x. recording_of false (Some x)) (one_range r s of_r of_s (ap (word_at 2) is))
+one_recording true true (Some r) (Some s) of_r of_s is = ap (λ x. recording_of true (Some x)) (one_range r s of_r of_s (ap (word_at 3) is))
+one_recording false true r s of_r of_s is = absurd (let (k, a) = two_words r in let (j, b) = two_words s in let n = ap length is in omega (arith, a, b, n))
+one_recording true false r s of_r of_s is = absurd (let (k, a) = two_words r in let (j, b) = two_words s in let n = ap length is in omega (arith, a, b, n))
+one_recording p q r s of_r of_s is = absurd (let n = ap length is in omega (arith, n))
 
 -- the recording that words are found to name is the only one
 pub only_recording : (words : List (List ℕ)) (found : Option Recording) → IfSome found (λ r. (words ≡ recording_words r) × FitsFrames r.frames)
     → IfSome found (λ r. (other : Recording) → FitsFrames other.frames → words ≡ recording_words other → other ≡ r)
 only_recording words None some = tt
-only_recording words (Some r) some = λ other fits is. ap (λ frames. record { frames = frames }) (one_recording r.frames other.frames some.1 fits (sym some.0 ∙ is))
+only_recording words (Some r) some = λ other fits is. one_recording r.gathers other.gathers r.frames other.frames some.1 fits (sym some.0 ∙ is)

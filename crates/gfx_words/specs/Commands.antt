@@ -27,9 +27,13 @@ words_of (Make frames) = codes "make" ∷ decimal frames ∷ []
 words_of Help = codes "--help" ∷ []
 words_of Version = codes "--version" ∷ []
 
+-- the words that ask for gathered writes
+abbrev pub gather_words : Bool → List (List ℕ)
+gather_words gathers = if gathers then codes "--gather" ∷ [] else []
+
 -- the words of a recording
 abbrev pub recording_words : Recording → List (List ℕ)
-recording_words r = codes "capture" ∷ frames_words r.frames
+recording_words r = codes "capture" ∷ gather_words r.gathers ++ frames_words r.frames
 
 -- a range that may be asked for
 abbrev pub FitsFrames : Option FrameRange → Type 0

@@ -10,9 +10,9 @@ pub returns-clause-ends : goal.returns-clause-ends
 returns-clause-ends g c =
     let before = g.K.Sink.taken c.args.sink.now in
     let after = g.K.Sink.taken c.record.new.sink in
-    told_if _ _ (Records (asked_by c.args.frames) before after c.record.result) _
-    (subst (λ a. IfTold (g.S.Source.left c.args.source.now) (g.S.Source.left c.record.new.source) (Records a before after c.record.result)) c.asked_by-asked.ensures c.record.ensures.told)
-    (λ all rest. ends_of c.args.frames before after c.record.result all rest)
+    told_if _ _ (Records c.args.recording.gathers (asked_by c.args.recording.frames) before after c.record.result) _
+    (subst (λ a. IfTold (g.S.Source.left c.args.source.now) (g.S.Source.left c.record.new.source) (Records c.args.recording.gathers a before after c.record.result)) c.asked_by-asked.ensures c.record.ensures.told)
+    (λ all rest. ends_of c.args.recording before after c.record.result all rest)
 
 pub returns-clause-complete : goal.returns-clause-complete
 returns-clause-complete g c told safe reads writes =

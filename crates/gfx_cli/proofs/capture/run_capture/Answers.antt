@@ -1,7 +1,7 @@
 use Rattle.std.proofs.Common.{◌≡◌, inl, inr, ap, refl, subst, sym}
-use Rattle.std.specs.Prelude.{Ok, Err, map, string_bytes}
+use Rattle.std.specs.Prelude.{Ok, Err, IfSome, map, string_bytes}
 use Rattle.std.specs.Io.KnownBytes.{Appends}
-use Rattle.gfx_recording.specs.Records.{Leaves}
+use Rattle.gfx_recording.specs.Records.{IsSafeText, Leaves}
 use Rattle.gfx_recording.specs.declared.fault.RecordingFault.TheVariants as why
 use Rattle.gfx_cli.specs.declared.status.Status.TheVariants as status
 use Rattle.gfx_cli.specs.Captures.{Ends, IsFault, IsUnstoppedAt, line_of, status_of}
@@ -29,8 +29,8 @@ pub returns-in-Ok-clause-bad_exactly : goal.returns-in-Ok-clause-bad_exactly
 returns-in-Ok-clause-bad_exactly g c recording line kind asked told bad reads writes notes =
     let before = g.K.Sink.taken c.args.sink.now in
     let after = g.K.Sink.taken c.record_frames.new.sink in
-    let (all, rest, fault, run) = at_told _ _ (IsFault line kind) (Ends c.in-Some.recording.frames before after (Ok tt)) told bad c.in-Ok.ensures.ends in
-    absurd (not_run _ line kind all rest fault run)
+    let (all, rest, fault, run) = at_told _ _ (IsFault line kind) (Ends c.in-Some.recording before after (Ok tt)) told bad c.in-Ok.ensures.ends in
+    absurd (not_run c.in-Some.recording.gathers _ line kind all rest fault run)
 
 pub returns-in-Err-clause-statuses : goal.returns-in-Err-clause-statuses
 returns-in-Err-clause-statuses g c = of_captures c.in-Err.fault c.tell_capture.result _ _ _ c.tell_capture.ensures.ends
@@ -49,7 +49,7 @@ pub returns-in-Err-clause-complete : goal.returns-in-Err-clause-complete
 returns-in-Err-clause-complete g c recording asked told safe reads writes notes =
     let same = c.in-Some.ensures.only recording asked in
     subst (λ r. IsUnstoppedAt r.frames c.tell_capture.result) (sym same)
-    (unstopped_at c.in-Some.recording.frames c.in-Err.fault c.tell_capture.result _ _ _ c.tell_capture.ensures.ends notes (c.in-Err.ensures.complete told safe reads writes))
+    (unstopped_at c.in-Some.recording.frames c.in-Err.fault c.tell_capture.result _ _ _ c.tell_capture.ensures.ends notes (c.in-Err.ensures.complete told (subst (λ r. IfSome (g.S.Source.left c.args.source.now) (IsSafeText r.gathers)) same safe) reads writes))
 
 pub returns-in-Err-clause-bad_script : goal.returns-in-Err-clause-bad_script
 returns-in-Err-clause-bad_script g c is =
@@ -61,13 +61,13 @@ returns-in-Err-clause-bad_script g c is =
 
 pub returns-in-Err-clause-bad_exactly : goal.returns-in-Err-clause-bad_exactly
 returns-in-Err-clause-bad_exactly g c recording line kind asked told bad reads writes notes =
-    let frames = c.in-Some.recording.frames in
+    let asks = c.in-Some.recording in
     let before = g.K.Sink.taken c.args.sink.now in
     let after = g.K.Sink.taken c.record_frames.new.sink in
     let noted = Appends (g.N.Sink.taken c.args.notes.now) (g.N.Sink.taken c.tell_capture.new.notes) in
-    let (all, rest, fault, ends) = at_told _ _ (IsFault line kind) (Ends frames before after (Err c.in-Err.fault)) told bad c.in-Err.ensures.ends in
+    let (all, rest, fault, ends) = at_told _ _ (IsFault line kind) (Ends asks before after (Err c.in-Err.fault)) told bad c.in-Err.ensures.ends in
     fault_exactly noted c.in-Err.fault (why.BadScript line kind) c.tell_capture.result _ _ c.tell_capture.ensures.ends c.tell_capture.ensures.silent notes
-    (bad_ends frames before after c.in-Err.fault line kind all rest fault ends
+    (bad_ends asks before after c.in-Err.fault line kind all rest fault ends
     (λ e. reads (c.in-Err.ensures.read_fault (ap Err e)))
     (λ e. writes (c.in-Err.ensures.sink_fault (ap Err e))))
 
@@ -122,7 +122,7 @@ pub returns-in-Err-clause-front : goal.returns-in-Err-clause-front
 returns-in-Err-clause-front g c is =
     let before = g.K.Sink.taken c.args.sink.now in
     let after = g.K.Sink.taken c.record_frames.new.sink in
-    elim (front_told c.in-Some.recording.frames before after _ _ c.in-Err.fault c.in-Err.ensures.ends
+    elim (front_told c.in-Some.recording before after _ _ c.in-Err.fault c.in-Err.ensures.ends
     (leaves_taken c.in-Err.fault _ (after ≡ before) (ap g.K.Sink.taken) c.in-Err.ensures.leaves)) [
       | inl same ↦ inl same
       | inr front ↦ inr (record { recording = c.in-Some.recording; asked = c.in-Some.ensures.some; front = front })
