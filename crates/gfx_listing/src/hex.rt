@@ -1,9 +1,9 @@
 //! Bytes from hexadecimal digits.
-ghost use Rattle.std.specs.Prelude.{◌≡◌, ◌<◌, IfSome};
-ghost use Rattle.gfx_text_grammar.specs.Words.{raw_in, byte_of, hex_value};
+ghost use Rattle.gfx_text_grammar.specs.Words.{raw_in};
 ghost use Rattle.gfx_listing.specs.Answers.{AppendsRead};
 
 use crate::fault::LineFault;
+use gfx_text::byte_of;
 
 /// Appends the bytes of hexadecimal digits in lower case, two for each byte. After a fault some of them may stand behind
 /// the old bytes.
@@ -22,23 +22,4 @@ pub(crate) fn append_bytes(digits: &[u8], out: &mut Vec<u8>) -> Result<(), LineF
         }
     }
     Ok(())
-}
-
-/// The byte of two hexadecimal digits.
-fn byte_of(high: u8, low: u8) -> Option<u8>
-    ensures { result ≡ byte_of high low }
-{
-    Some(16 * hex_value(high)? + hex_value(low)?)
-}
-
-/// The value of a hexadecimal digit in lower case, below 16.
-fn hex_value(digit: u8) -> Option<u8>
-    ensures value { result ≡ hex_value digit }
-    ensures small { IfSome result (λ n. n < 16) }
-{
-    match digit {
-        b'0'..=b'9' => Some(digit - b'0'),
-        b'a'..=b'f' => Some(digit - 87),
-        _ => None,
-    }
 }

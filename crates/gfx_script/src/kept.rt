@@ -7,7 +7,7 @@ use crate::numbering::with_memory;
 use crate::putting::with_ids;
 use gfx_params::{ParamFault, call_id, decode, decode_meta, encode, encode_meta};
 use gfx_types::{Call, Effect, Meta, WantMemory};
-use std::alloc::Global;
+use std::alloc::{AllocError, Global};
 
 /// A call, or a write, as its fields are spelled in a minor version; a write has 0 as the number of its call.
 #[derive(Debug, Drop)]
@@ -98,6 +98,45 @@ impl Kept {
             Err(ParamFault::WantMemory) => Err(WantMemory),
             Err(ParamFault::BadParams) => unreachable!(),
         }
+    }
+
+    /// The call or write as it is kept, its ids being numbers of names.
+    pub(crate) fn event(&self, alloc: Global) -> Result<Effect<'_>, WantMemory>
+        ensures { IfOk result (λ effect. event_of effect ≡ event_of_kept self.now) }
+    {
+        if self.call == 0 {
+            return self.kept_write(alloc);
+        }
+        match decode(alloc, self.minor, self.call, &self.fields) {
+            Ok(call) => Ok(Effect::Call(call)),
+            Err(ParamFault::WantMemory) => Err(WantMemory),
+            Err(ParamFault::BadParams) => unreachable!(),
+        }
+    }
+
+    // The write as it is kept.
+    fn kept_write(&self, alloc: Global) -> Result<Effect<'_>, WantMemory>
+        requires write { self.now.call ≡ 0 }
+        ensures { IfOk result (λ effect. event_of effect ≡ event_of_kept self.now) }
+    {
+        are_bytes(&self.fields);
+        match decode_meta(alloc, 2, &self.fields) {
+            Ok(meta) => Ok(Effect::Meta(meta)),
+            Err(ParamFault::WantMemory) => Err(WantMemory),
+            Err(ParamFault::BadParams) => unreachable!(),
+        }
+    }
+
+    /// The same once more.
+    pub(crate) fn copy(&self, alloc: Global) -> Result<Self, AllocError>
+        ensures { IfOk result (λ kept. (kept.minor ≡ self.now.minor) × (kept.call ≡ self.now.call) × (kept.fields.items ≡ self.now.fields.items)) }
+    {
+        let fields = Vec::from_slice(alloc, &self.fields)?;
+        Ok(Kept {
+            minor: self.minor,
+            call: self.call,
+            fields,
+        })
     }
 
     // The write with this id.

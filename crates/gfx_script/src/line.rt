@@ -5,7 +5,7 @@ ghost use Rattle.gfx_script.specs.Kept.{event_in, is_version};
 
 use crate::kept::Kept;
 use gfx_types::{Effect, Ids, WantMemory};
-use std::alloc::Global;
+use std::alloc::{AllocError, Global};
 
 /// A line with a call or a write: its number, counted from 1, and the numbers of the names that it defines and uses, in
 /// the order of its fields. In `uses` a 0 stands for no object.
@@ -23,11 +23,11 @@ impl Line {
     ghost use Rattle.gfx_model.specs.Events.{event_of};
     ghost use Rattle.gfx_model.specs.Spelling.{HasSpelling};
     ghost use Rattle.gfx_script_model.specs.Statements.{may_be_written};
-    ghost use Rattle.gfx_script.specs.Line.{event_of_line};
+    ghost use Rattle.gfx_script.specs.Line.{event_of_line, line_of};
     ghost use Rattle.gfx_script.specs.Puts.{HasIds};
 
     /// The line with this number of a call or a write whose ids are numbers of names.
-    pub(crate) fn new(
+    pub fn new(
         alloc: Global,
         number: u32,
         minor: u32,
@@ -63,5 +63,27 @@ impl Line {
         ensures { IfOk result (λ effect. HasIds (event_of_line self.now) used.now defined.now (event_of effect)) }
     {
         self.call.effect(alloc, used, defined)
+    }
+
+    /// The call or write with the numbers of names for its ids.
+    pub fn event(&self, alloc: Global) -> Result<Effect<'_>, WantMemory>
+        ensures { IfOk result (λ effect. event_of effect ≡ event_of_line self.now) }
+    {
+        self.call.event(alloc)
+    }
+
+    /// The same line once more.
+    pub fn copy(&self, alloc: Global) -> Result<Self, AllocError>
+        ensures { IfOk result (λ line. line_of line ≡ line_of self.now) }
+    {
+        let defines = Vec::from_slice(alloc, self.defines.items())?;
+        let uses = Vec::from_slice(alloc, self.uses.items())?;
+        let call = self.call.copy(alloc)?;
+        Ok(Line {
+            number: self.number,
+            defines: Ids::of(defines),
+            uses: Ids::of(uses),
+            call,
+        })
     }
 }

@@ -15,4 +15,4 @@ pub use fault::TextFault;
 pub use fields::Left;
 pub use ids::{Numbered, ReadId};
 pub use reading::{read_call, read_meta};
-pub use words::number_of;
+pub use words::{byte_of, number_of};

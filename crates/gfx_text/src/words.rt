@@ -1,5 +1,5 @@
 // Words of a text: where one ends, and the number or the bytes that it is.
-ghost use Rattle.std.specs.Prelude.{◌≡◌, ◌<◌, ◌^◌, IfOk, IfSome, MatchOption, not, position};
+ghost use Rattle.std.specs.Prelude.{◌≡◌, ◌<◌, ◌^◌, IfOk, MatchOption, not, position};
 ghost use Rattle.std.specs.List.{position_or_len};
 ghost use Rattle.gfx_script_model.specs.Names.{is_letter_or_digit};
 ghost use Rattle.gfx_text_grammar.specs.Words.{word_of, after_word, number_in, is_plain, raw_in, byte_of, hex_value};
@@ -120,21 +120,30 @@ pub(crate) fn bytes_of(alloc: Global, word: &[u8]) -> Result<Option<Vec<u8>>, Al
     Ok(Some(bytes))
 }
 
-/// The byte of two hexadecimal digits.
-fn byte_of(high: u8, low: u8) -> Option<u8>
+/// The byte of two hexadecimal digits in lower case. None where one of them is no such digit.
+pub fn byte_of(high: u8, low: u8) -> Option<u8>
     ensures { result ≡ byte_of high low }
 {
-    Some(16 * hex_value(high)? + hex_value(low)?)
+    let (high, low) = (digit_value(high), digit_value(low));
+    if high > 15 || low > 15 {
+        return None;
+    }
+    Some(16 * high + low)
 }
 
-/// The value of a hexadecimal digit in lower case, below 16.
-fn hex_value(digit: u8) -> Option<u8>
-    ensures value { result ≡ hex_value digit }
-    ensures small { IfSome result (λ n. n < 16) }
+// What a byte that is no hexadecimal digit has for its value.
+const NO_DIGIT: u8 = 255;
+
+/// The value of a hexadecimal digit in lower case. It is a number and no Option, since which digit comes next can't be guessed: so no
+/// branch is taken on it.
+fn digit_value(digit: u8) -> u8
+    ensures { MatchOption (hex_value digit) (result ≡ 255) (λ value. (result ≡ value) × (value < 16)) }
 {
-    match digit {
-        b'0'..=b'9' => Some(digit - b'0'),
-        b'a'..=b'f' => Some(digit - 87),
-        _ => None,
+    if digit >= b'0' && digit <= b'9' {
+        digit - b'0'
+    } else if digit >= b'a' && digit <= b'f' {
+        digit - 87
+    } else {
+        NO_DIGIT
     }
 }
