@@ -1,7 +1,7 @@
 #!/usr/bin/env python3
 """Runs the gate from nothing and prints what each crate, its tests and its edits take, in seconds of one processor.
 
-    python3 bench/gate/run.py [WORDS OF rt ci]      default: --anew
+    python3 bench/gate/run.py [WORDS OF rt ci]      --anew where this toolchain's `rt ci` knows it, and keeps what earlier runs proved
 
 It looks at the checker's processes twice a second, so what is shorter than half a second is not seen. Run it on a machine that
 does nothing else.
@@ -38,7 +38,7 @@ def seen():
 def main():
     start, took, begun, ended = time.time(), {}, {}, {}
     with open(LOG, "w") as log:
-        gate = subprocess.Popen(["rt", "ci", *(sys.argv[1:] or ["--anew"])], stdout=log, stderr=subprocess.STDOUT, stdin=subprocess.DEVNULL)
+        gate = subprocess.Popen(["rt", "ci", *sys.argv[1:]], stdout=log, stderr=subprocess.STDOUT, stdin=subprocess.DEVNULL)
         while gate.poll() is None:
             now = time.time() - start
             for pid, crate, kind, seconds in seen():
