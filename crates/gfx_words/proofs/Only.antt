@@ -5,7 +5,7 @@ use Rattle.std.specs.List.{before_first, after_first}
 use Rattle.std.proofs.lemmas.Fmt.{decimal_injective}
 use Rattle.gfx_words.specs.declared.range.FrameRange.{FrameRange}
 use Rattle.gfx_words.specs.declared.command.Command.{Command}
-use Rattle.gfx_words.specs.declared.command.Command.TheVariants.{Info, Replay, Trim, Upgrade, List as Lists, Unlist as Unlists, Make, Help, Version}
+use Rattle.gfx_words.specs.declared.command.Command.TheVariants.{Info, Replay, Trim, Lean, Upgrade, List as Lists, Unlist as Unlists, Make, Help, Version}
 use Rattle.gfx_words.specs.Words.{range_text, FitsRange}
 use Rattle.gfx_words.specs.declared.recording.Recording.{Recording}
 use Rattle.gfx_words.specs.Commands.{frames_words, recording_words, words_of, Fits, FitsFrames}
@@ -50,6 +50,7 @@ pub one_command : (c other : Command) → Fits c → Fits other → words_of c �
 one_command Info Info of_c of_other is = refl
 one_command (Replay p r) (Replay q s) of_c of_other is = one_replay p q r s of_c of_other is
 one_command (Trim r) (Trim s) of_c of_other is = ap Trim (one_range r s of_c of_other (ap (word_at 1) is))
+one_command (Lean r) (Lean s) of_c of_other is = ap Lean (one_range r s of_c of_other (ap (word_at 1) is))
 one_command (Make n) (Make m) of_c of_other is = ap Make (decimal_injective m n (omega (arith, of_other.1)) (omega (arith, of_c.1)) (sym (ap (word_at 1) is)))
 one_command Upgrade Upgrade of_c of_other is = refl
 one_command Lists Lists of_c of_other is = refl

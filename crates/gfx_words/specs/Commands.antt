@@ -3,7 +3,7 @@ use Rattle.std.specs.Prelude.{◌≤◌, ℕ, Bool, if◌then◌else◌, List, [
 use Rattle.gfx_words.specs.declared.range.FrameRange.{FrameRange}
 use Rattle.gfx_words.specs.declared.command.Command.{Command}
 use Rattle.gfx_words.specs.declared.recording.Recording.{Recording}
-use Rattle.gfx_words.specs.declared.command.Command.TheVariants.{Info, Replay, Trim, Upgrade, List as Lists, Unlist as Unlists, Make, Help, Version}
+use Rattle.gfx_words.specs.declared.command.Command.TheVariants.{Info, Replay, Trim, Lean, Upgrade, List as Lists, Unlist as Unlists, Make, Help, Version}
 use Rattle.gfx_words.specs.Words.{range_text, FitsRange}
 
 -- the words that ask for a range
@@ -20,6 +20,7 @@ abbrev pub words_of : Command → List (List ℕ)
 words_of Info = codes "info" ∷ []
 words_of (Replay pixels frames) = codes "replay" ∷ pixels_words pixels ++ frames_words frames
 words_of (Trim r) = codes "trim" ∷ range_text r ∷ []
+words_of (Lean r) = codes "lean" ∷ range_text r ∷ []
 words_of Upgrade = codes "upgrade" ∷ []
 words_of Lists = codes "list" ∷ []
 words_of Unlists = codes "unlist" ∷ []
@@ -45,6 +46,7 @@ abbrev pub Fits : Command → Type 0
 Fits Info = ⊤
 Fits (Replay pixels frames) = FitsFrames frames
 Fits (Trim r) = FitsRange r
+Fits (Lean r) = FitsRange r
 Fits Upgrade = ⊤
 Fits Lists = ⊤
 Fits Unlists = ⊤

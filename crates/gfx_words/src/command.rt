@@ -13,6 +13,7 @@ pub enum Command {
         frames: Option<FrameRange>,
     },
     Trim(FrameRange),
+    Lean(FrameRange),
     Upgrade,
     List,
     Unlist,
@@ -91,6 +92,7 @@ impl Command {
                 frames: None,
             }),
             "trim" => Some(Command::Trim(FrameRange::of(option)?)),
+            "lean" => Some(Command::Lean(FrameRange::of(option)?)),
             "make" => Command::make(option),
             _ => None,
         }
