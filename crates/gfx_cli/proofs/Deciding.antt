@@ -9,7 +9,7 @@ use Rattle.gfx_trim.specs.Numbers.{IsInside, IsOutside}
 use Rattle.gfx_player.specs.Meanings.{history_in}
 use Rattle.gfx_listing_law.proofs.Readable.{listing_is_good, one_bad as one_bad_line}
 use Rattle.gfx_words.specs.declared.command.Command.{Command}
-use Rattle.gfx_words.specs.declared.command.Command.TheVariants.{Info, Replay, Trim, Upgrade, List as Lists, Unlist as Unlists, Make, Help, Version}
+use Rattle.gfx_words.specs.declared.command.Command.TheVariants.{Info, Replay, Trim, Lean, Upgrade, List as Lists, Unlist as Unlists, Make, Help, Version}
 use Rattle.gfx_cli.specs.declared.stop.Stop.{Stop}
 use Rattle.gfx_cli.specs.declared.stop.Stop.TheVariants.{WantMemory, BadFile, NoSuchFrame, ReadFault, WriteFault, BadListing}
 use Rattle.gfx_cli.specs.Commands.{IsBad, IsBadLine, IsGood, LacksFrame}
@@ -32,6 +32,7 @@ good_not_bad Info fault block offset bytes good is = let e : clean ≡ bad fault
 good_not_bad (Replay pixels None) fault block offset bytes good is = let e : clean ≡ bad fault block offset = sym good ∙ is.0 in absurd cc
 good_not_bad (Replay pixels (Some r)) fault block offset bytes good is = let e : true ≡ false = sym good ∙ is.1 in absurd cc
 good_not_bad (Trim r) fault block offset bytes good is = in_and_out r.first r.last (history_in bytes) good is.1
+good_not_bad (Lean r) fault block offset bytes good is = in_and_out r.first r.last (history_in bytes) good is.1
 good_not_bad Upgrade fault block offset bytes good is = let e : clean ≡ bad fault block offset = sym good ∙ is in absurd cc
 good_not_bad Lists fault block offset bytes good is = let e : clean ≡ bad fault block offset = sym good ∙ is in absurd cc
 good_not_bad Unlists fault block offset bytes good is = is
@@ -44,6 +45,7 @@ good_not_lacking Info first last bytes good is = is
 good_not_lacking (Replay pixels None) first last bytes good is = is.range
 good_not_lacking (Replay pixels (Some r)) first last bytes good is = let e : true ≡ false = sym good ∙ is.unseen in absurd cc
 good_not_lacking (Trim r) first last bytes good is = in_and_out r.first r.last (history_in bytes) good is.outside
+good_not_lacking (Lean r) first last bytes good is = in_and_out r.first r.last (history_in bytes) good is.outside
 good_not_lacking Upgrade first last bytes good is = is
 good_not_lacking Lists first last bytes good is = is
 good_not_lacking Unlists first last bytes good is = is
@@ -55,6 +57,7 @@ bad_not_lacking : (c : Command) (fault : Fault) (block offset first last : ℕ) 
 bad_not_lacking Info fault block offset first last bytes wrong is = is
 bad_not_lacking (Replay pixels frames) fault block offset first last bytes wrong is = let e : clean ≡ bad fault block offset = sym is.end ∙ wrong.0 in absurd cc
 bad_not_lacking (Trim r) fault block offset first last bytes wrong is = let e : clean ≡ bad fault block offset = sym is.end ∙ wrong.0 in absurd cc
+bad_not_lacking (Lean r) fault block offset first last bytes wrong is = let e : clean ≡ bad fault block offset = sym is.end ∙ wrong.0 in absurd cc
 bad_not_lacking Upgrade fault block offset first last bytes wrong is = is
 bad_not_lacking Lists fault block offset first last bytes wrong is = is
 bad_not_lacking Unlists fault block offset first last bytes wrong is = is
@@ -74,6 +77,7 @@ same_bad : (c : Command) (fault other : Fault) (block number offset place : ℕ)
 same_bad Info fault other block number offset place bytes is so = one_bad fault other block number offset place (sym is ∙ so)
 same_bad (Replay pixels frames) fault other block number offset place bytes is so = one_bad fault other block number offset place (sym is.0 ∙ so.0)
 same_bad (Trim r) fault other block number offset place bytes is so = one_bad fault other block number offset place (sym is.0 ∙ so.0)
+same_bad (Lean r) fault other block number offset place bytes is so = one_bad fault other block number offset place (sym is.0 ∙ so.0)
 same_bad Upgrade fault other block number offset place bytes is so = one_bad fault other block number offset place (sym is ∙ so)
 same_bad Lists fault other block number offset place bytes is so = one_bad fault other block number offset place (sym is ∙ so)
 same_bad Unlists fault other block number offset place bytes is so = absurd is
@@ -87,6 +91,8 @@ same_lack Info first last other_first other_last bytes is so = absurd is
 same_lack (Replay pixels frames) first last other_first other_last bytes is so =
     ap (λ n. NoSuchFrame n last) (is.first_is ∙ sym so.first_is) ∙ ap (NoSuchFrame other_first) (is.last_is ∙ sym so.last_is)
 same_lack (Trim r) first last other_first other_last bytes is so =
+    ap (λ n. NoSuchFrame n last) (is.first_is ∙ sym so.first_is) ∙ ap (NoSuchFrame other_first) (is.last_is ∙ sym so.last_is)
+same_lack (Lean r) first last other_first other_last bytes is so =
     ap (λ n. NoSuchFrame n last) (is.first_is ∙ sym so.first_is) ∙ ap (NoSuchFrame other_first) (is.last_is ∙ sym so.last_is)
 same_lack Upgrade first last other_first other_last bytes is so = absurd is
 same_lack Lists first last other_first other_last bytes is so = absurd is

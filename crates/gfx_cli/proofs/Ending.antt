@@ -7,12 +7,12 @@ use Rattle.gfx_io.specs.Pieces.{AppendsPart}
 use Rattle.gfx_model.specs.Blocks.{minor_of}
 use Rattle.gfx_model.specs.Text.{count_lines, counts_text, line}
 use Rattle.gfx_grammar.specs.Splitting.{blocks_of}
-use Rattle.gfx_io.proofs.Appending.{appends_none, nothing_written, part_of, whole_part}
+use Rattle.gfx_io.proofs.Appending.{appends_none, part_of, whole_part}
 use Rattle.gfx_decode.specs.declared.fault.DecodeFault.{DecodeFault}
 use Rattle.gfx_decode.specs.declared.fault.DecodeFault.TheVariants as decoder
 use Rattle.gfx_words.specs.declared.range.FrameRange.{FrameRange}
 use Rattle.gfx_words.specs.declared.command.Command.{Command}
-use Rattle.gfx_words.specs.declared.command.Command.TheVariants.{Info, Replay, Trim, Upgrade, List as Lists, Unlist as Unlists, Make, Help, Version}
+use Rattle.gfx_words.specs.declared.command.Command.TheVariants.{Info, Replay, Trim, Lean, Upgrade, List as Lists, Unlist as Unlists, Make, Help, Version}
 use Rattle.gfx_player.specs.declared.fault.PlayFault.{PlayFault}
 use Rattle.gfx_player.specs.declared.fault.PlayFault.TheVariants as play
 use Rattle.gfx_player.specs.Fed.{IsUnfinished}
@@ -20,6 +20,7 @@ use Rattle.gfx_play.specs.Screens.{lines_of}
 use Rattle.gfx_play.specs.Shows.{Answers, lines_in, text_in}
 use Rattle.gfx_trim.specs.Trims as trim
 use Rattle.gfx_trim.specs.Written.{written}
+use Rattle.gfx_lean.specs.Leans as lean
 use Rattle.gfx_upgrade.specs.Upgrades as upgrade
 use Rattle.gfx_upgrade.specs.Upgrades.{upgraded}
 use Rattle.gfx_list.specs.Lists as list
@@ -32,9 +33,9 @@ use Rattle.gfx_listing_law.proofs.Readable.{all_of, fronts, listings_unlisted, s
 use Rattle.gfx_cli.specs.declared.counts.Counts.{Counts}
 use Rattle.gfx_cli.specs.declared.stop.Stop.{Stop}
 use Rattle.gfx_cli.specs.declared.stop.Stop.TheVariants.{WantMemory, BadFile, NoSuchFrame, ReadFault, WriteFault, BadListing}
-use Rattle.gfx_cli.specs.Commands.{IsGood, Leaves, asked_by, text_by, text_before}
+use Rattle.gfx_cli.specs.Commands.{IsGood, Leaves, Writes, asked_by, text_before}
 use Rattle.gfx_cli.specs.Counts.{CountsAll}
-use Rattle.gfx_cli.specs.Ends.{Ends, IsCutOff, IsDone, Stops}
+use Rattle.gfx_cli.specs.Ends.{Ends, IsCutOff, IsDone, Stops, WritesPart}
 use Rattle.gfx_cli.specs.Stop.{of_decoder, of_play, of_unlist, IsUnwritten, MayStop}
 use Rattle.gfx_cli.specs.Text.{at_clean, info_text}
 
@@ -51,9 +52,9 @@ info_fails taken decoder.ReadFault all rest (fed, is) =
       parts = is.parts;
       going = subst (λ ws. IsUnfinished ws is.given) (sym is.blocks) is.cut;
       text = appends_none taken;
-      front = nothing_written taken (info_text all);
+      front = inl (appends_none taken);
     }
-info_fails taken decoder.WantMemory all rest end = nothing_written taken (info_text all)
+info_fails taken decoder.WantMemory all rest end = inl (appends_none taken)
 
 -- which it may do
 pub info_may : (why : DecodeFault) → MayStop Info (of_decoder why)
@@ -81,9 +82,9 @@ pub replay_fails : (why : PlayFault) (pixels : Bool) (frames : Option FrameRange
 replay_fails (play.Bad fault block offset) pixels frames before after all rest is = ((is.end, is.unseen), is.text)
 replay_fails (play.NoSuchFrame first last) pixels frames before after all rest is =
     (record { range = is.range; end = is.end; unseen = is.unseen; first_is = is.first_is; last_is = is.last_is }, is.text, is.read)
-replay_fails play.ReadFault pixels frames before after all rest is = record { reads = tt; read = is.given; parts = is.parts; going = (is.cut, is.lawful, is.unseen); text = is.text; front = is.front }
-replay_fails play.SinkFault pixels frames before after all rest is = is
-replay_fails play.WantMemory pixels frames before after all rest is = is
+replay_fails play.ReadFault pixels frames before after all rest is = record { reads = tt; read = is.given; parts = is.parts; going = (is.cut, is.lawful, is.unseen); text = is.text; front = inr is.front }
+replay_fails play.SinkFault pixels frames before after all rest is = inr is
+replay_fails play.WantMemory pixels frames before after all rest is = inr is
 
 pub replay_done : (pixels : Bool) (frames : Option FrameRange) (before after : Option (List ℕ)) (all rest : List ℕ)
     → Answers (asked_by frames) pixels before after (Ok tt) all rest → IsDone (Replay pixels frames) before after all rest
@@ -102,21 +103,46 @@ pub trim_fails : (why : PlayFault) (r : FrameRange) (before after : Option (List
     → trim.Answers r.first r.last before after (Err why) all rest → Stops (Trim r) before after (of_play why) all rest
 trim_fails (play.Bad wrong block offset) r before after all rest is = ((is.end, is.outside), is.file)
 trim_fails (play.NoSuchFrame first last) r before after all rest is = (record { end = is.end; outside = is.outside; first_is = is.low_is; last_is = is.high_is }, is.file, is.read)
-trim_fails play.ReadFault r before after all rest is = record { reads = tt; read = is.given; parts = is.parts; going = (is.cut, is.lawful, is.outside); text = is.file; front = is.front }
-trim_fails play.SinkFault r before after all rest is = is
-trim_fails play.WantMemory r before after all rest is = is
+trim_fails play.ReadFault r before after all rest is = record { reads = tt; read = is.given; parts = is.parts; going = (is.cut, is.lawful, is.outside); text = is.file; front = inr is.front }
+trim_fails play.SinkFault r before after all rest is = inr is
+trim_fails play.WantMemory r before after all rest is = inr is
 
 pub trim_done : (r : FrameRange) (before after : Option (List ℕ)) (all rest : List ℕ) → trim.Answers r.first r.last before after (Ok tt) all rest → IsDone (Trim r) before after all rest
 trim_done r before after all rest is = record { good = is.inside; leaves = is.behind; text = subst (Appends before after) (sym is.all) is.file }
+
+-- ---- `lean`
+
+-- where a sink is as it was, nothing was written
+none_taken : (before after : Option (List ℕ)) → after ≡ before → Appends before after []
+none_taken before after same = subst (λ a. Appends before a []) (sym same) (appends_none before)
+
+-- a front of a lean file
+lean_part : (r : FrameRange) (before after : Option (List ℕ)) (all : List ℕ) → lean.IsPart r.first r.last before after all → WritesPart (Lean r) before after all
+lean_part r before after all is = inr (is.out, is.took, is.lean)
+
+pub lean_fails : (why : PlayFault) (r : FrameRange) (before after : Option (List ℕ)) (all rest : List ℕ)
+    → lean.Answers r.first r.last before after (Err why) all rest → Stops (Lean r) before after (of_play why) all rest
+lean_fails (play.Bad wrong block offset) r before after all rest is = ((is.end, is.outside), none_taken before after is.none)
+lean_fails (play.NoSuchFrame first last) r before after all rest is =
+    (record { end = is.end; outside = is.outside; first_is = is.low_is; last_is = is.high_is }, none_taken before after is.none, is.read)
+lean_fails play.ReadFault r before after all rest is =
+    let none = none_taken before after is.none in
+    record { reads = tt; read = is.given; parts = is.parts; going = (is.cut, is.lawful, is.outside); text = none; front = inl none }
+lean_fails play.SinkFault r before after all rest is = lean_part r before after all is
+lean_fails play.WantMemory r before after all rest (inl none) = inl (none_taken before after none)
+lean_fails play.WantMemory r before after all rest (inr is) = lean_part r before after all is
+
+pub lean_done : (r : FrameRange) (before after : Option (List ℕ)) (all rest : List ℕ) → lean.Answers r.first r.last before after (Ok tt) all rest → IsDone (Lean r) before after all rest
+lean_done r before after all rest is = record { good = is.inside; leaves = is.behind; text = (is.out, is.took, is.lean) }
 
 -- ---- `upgrade`
 
 pub upgrade_fails : (why : PlayFault) (before after : Option (List ℕ)) (all rest : List ℕ) → upgrade.Answers before after (Err why) all rest → Stops Upgrade before after (of_play why) all rest
 upgrade_fails (play.Bad fault block offset) before after all rest is = (is.end, is.file)
 upgrade_fails (play.NoSuchFrame first last) before after all rest is = absurd is
-upgrade_fails play.ReadFault before after all rest is = record { reads = tt; read = is.given; parts = is.parts; going = is.cut; text = is.file; front = is.front }
-upgrade_fails play.SinkFault before after all rest is = is
-upgrade_fails play.WantMemory before after all rest is = is
+upgrade_fails play.ReadFault before after all rest is = record { reads = tt; read = is.given; parts = is.parts; going = is.cut; text = is.file; front = inr is.front }
+upgrade_fails play.SinkFault before after all rest is = inr is
+upgrade_fails play.WantMemory before after all rest is = inr is
 
 pub upgrade_done : (before after : Option (List ℕ)) (all rest : List ℕ) → upgrade.Answers before after (Ok tt) all rest → IsDone Upgrade before after all rest
 upgrade_done before after all rest is = record { good = is.clean_end; leaves = is.read; text = is.file }
@@ -133,9 +159,9 @@ upgrade_may play.WantMemory asks = tt
 pub list_fails : (why : PlayFault) (before after : Option (List ℕ)) (all rest : List ℕ) → list.Answers before after (Err why) all rest → Stops Lists before after (of_play why) all rest
 list_fails (play.Bad fault block offset) before after all rest is = (is.end, is.text)
 list_fails (play.NoSuchFrame first last) before after all rest is = absurd is
-list_fails play.ReadFault before after all rest is = record { reads = tt; read = is.given; parts = is.parts; going = is.cut; text = is.text; front = is.front }
-list_fails play.SinkFault before after all rest is = is
-list_fails play.WantMemory before after all rest is = is
+list_fails play.ReadFault before after all rest is = record { reads = tt; read = is.given; parts = is.parts; going = is.cut; text = is.text; front = inr is.front }
+list_fails play.SinkFault before after all rest is = inr is
+list_fails play.WantMemory before after all rest is = inr is
 
 pub list_done : (before after : Option (List ℕ)) (all rest : List ℕ) → list.Answers before after (Ok tt) all rest → IsDone Lists before after all rest
 list_done before after all rest is = record { good = is.clean_end; leaves = is.read; text = is.text }
@@ -164,7 +190,7 @@ unlist_cut before after all rest is =
       parts = is.parts;
       going = (is.lines, is.rest, is.begins, is.cut);
       text = subst (Appends before after) (sym (all_of is.lines is.rest is.given is.begins (inr (inl is.cut)))) is.file;
-      front = unlist_part before after is.lines (is.rest ++ rest) all (record { parts = whole; are_read = is.begins.are_read }) (whole_part before after (bytes_in is.lines) is.file);
+      front = inr (unlist_part before after is.lines (is.rest ++ rest) all (record { parts = whole; are_read = is.begins.are_read }) (whole_part before after (bytes_in is.lines) is.file));
     }
 
 pub unlist_fails : (why : UnlistFault) (before after : Option (List ℕ)) (all rest : List ℕ) → unlist.Unlists before after (Err why) all rest → Stops Unlists before after (of_unlist why) all rest
@@ -172,8 +198,8 @@ unlist_fails (fault.BadListing number) before after all rest is =
     let bad = is.bad in
     (bad, subst (Appends before after) (sym (all_of bad.lines bad.rest all bad.begins (stops_of bad.lines bad.rest bad.stops))) is.file)
 unlist_fails fault.ReadFault before after all rest is = unlist_cut before after all rest is
-unlist_fails fault.SinkFault before after all rest is = unlist_part before after is.lines is.rest all is.begins is.part
-unlist_fails fault.WantMemory before after all rest is = unlist_part before after is.lines is.rest all is.begins is.part
+unlist_fails fault.SinkFault before after all rest is = inr (unlist_part before after is.lines is.rest all is.begins is.part)
+unlist_fails fault.WantMemory before after all rest is = inr (unlist_part before after is.lines is.rest all is.begins is.part)
 
 pub unlist_done : (before after : Option (List ℕ)) (all rest : List ℕ) → unlist.Unlists before after (Ok tt) all rest → IsDone Unlists before after all rest
 unlist_done before after all rest is =
@@ -187,14 +213,15 @@ unlist_may fault.WantMemory = tt
 
 -- ---- a text that needs no file
 
-pub text_ends : (c : Command) (before after : Option (List ℕ)) (r : Result Unit Stop) (text bytes : List ℕ) → IsGood c bytes → Leaves c bytes bytes → text ≡ text_by c bytes
-    → OnOk r (Appends before after text) → AppendsPart before after text → IfErr r IsUnwritten → Ends c before after r bytes bytes
-text_ends c before after (Ok done) text bytes good leaves is whole part why = record { good = good; leaves = leaves; text = subst (Appends before after) is whole }
+pub text_ends : (c : Command) (before after : Option (List ℕ)) (r : Result Unit Stop) (text bytes : List ℕ) → IsGood c bytes → Leaves c bytes bytes
+    → ((Took : List ℕ → Type 0) → Took text → Writes c Took bytes) → OnOk r (Appends before after text) → AppendsPart before after text → IfErr r IsUnwritten
+    → Ends c before after r bytes bytes
+text_ends c before after (Ok done) text bytes good leaves is whole part why = record { good = good; leaves = leaves; text = is (Appends before after) whole }
 text_ends c before after (Err (BadFile fault block offset)) text bytes good leaves is whole part why = absurd why
 text_ends c before after (Err (NoSuchFrame first last)) text bytes good leaves is whole part why = absurd why
 text_ends c before after (Err ReadFault) text bytes good leaves is whole part why = absurd why
-text_ends c before after (Err WriteFault) text bytes good leaves is whole part why = subst (AppendsPart before after) is part
-text_ends c before after (Err WantMemory) text bytes good leaves is whole part why = subst (AppendsPart before after) is part
+text_ends c before after (Err WriteFault) text bytes good leaves is whole part why = inr (is (AppendsPart before after) part)
+text_ends c before after (Err WantMemory) text bytes good leaves is whole part why = inr (is (AppendsPart before after) part)
 text_ends c before after (Err (BadListing line)) text bytes good leaves is whole part why = absurd why
 
 -- it may stop so
@@ -217,19 +244,33 @@ lines_first : (pixels : Bool) (frames : Option FrameRange) (before after : Optio
 unfolding lines_of
 lines_first pixels frames before after bytes text = part_of before after (lines_in (asked_by frames) pixels bytes) _ (whole_part before after (lines_in (asked_by frames) pixels bytes) text)
 
-text_first : (c : Command) (before after : Option (List ℕ)) (bytes : List ℕ) → Appends before after (text_before c bytes) → AppendsPart before after (text_by c bytes)
-text_first Info before after bytes text = part_of before after [] (info_text bytes) (whole_part before after [] text)
-text_first (Replay pixels frames) before after bytes text = lines_first pixels frames before after bytes text
-text_first (Trim r) before after bytes text = whole_part before after (written r.first r.last bytes) text
-text_first Upgrade before after bytes text = whole_part before after (upgraded bytes) text
-text_first Lists before after bytes text = whole_part before after (listed bytes) text
-text_first Unlists before after bytes text = whole_part before after (unlisted bytes) text
-text_first (Make n) before after bytes text = part_of before after [] (text_by (Make n) bytes) (whole_part before after [] text)
-text_first Help before after bytes text = part_of before after [] (text_by Help bytes) (whole_part before after [] text)
-text_first Version before after bytes text = part_of before after [] (text_by Version bytes) (whole_part before after [] text)
+text_first : (c : Command) (before after : Option (List ℕ)) (bytes : List ℕ) → Appends before after (text_before c bytes) → WritesPart c before after bytes
+text_first Info before after bytes text = inl text
+text_first (Replay pixels frames) before after bytes text = inr (lines_first pixels frames before after bytes text)
+text_first (Trim r) before after bytes text = inr (whole_part before after (written r.first r.last bytes) text)
+text_first (Lean r) before after bytes text = inl text
+text_first Upgrade before after bytes text = inr (whole_part before after (upgraded bytes) text)
+text_first Lists before after bytes text = inr (whole_part before after (listed bytes) text)
+text_first Unlists before after bytes text = inr (whole_part before after (unlisted bytes) text)
+text_first (Make n) before after bytes text = inl text
+text_first Help before after bytes text = inl text
+text_first Version before after bytes text = inl text
 
-pub front_of : (c : Command) (before after : Option (List ℕ)) (end : Result Unit Stop) (all rest : List ℕ) → Ends c before after end all rest → AppendsPart before after (text_by c all)
-front_of c before after (Ok done) all rest is = whole_part before after (text_by c all) is.text
+-- all of what a command writes is a front of it
+all_first : (c : Command) (before after : Option (List ℕ)) (bytes : List ℕ) → Writes c (Appends before after) bytes → Writes c (AppendsPart before after) bytes
+all_first Info before after bytes text = whole_part before after _ text
+all_first (Replay pixels frames) before after bytes text = whole_part before after _ text
+all_first (Trim r) before after bytes text = whole_part before after _ text
+all_first (Lean r) before after bytes (out, text, is) = (out, whole_part before after out text, is)
+all_first Upgrade before after bytes text = whole_part before after _ text
+all_first Lists before after bytes text = whole_part before after _ text
+all_first Unlists before after bytes text = whole_part before after _ text
+all_first (Make n) before after bytes text = whole_part before after _ text
+all_first Help before after bytes text = whole_part before after _ text
+all_first Version before after bytes text = whole_part before after _ text
+
+pub front_of : (c : Command) (before after : Option (List ℕ)) (end : Result Unit Stop) (all rest : List ℕ) → Ends c before after end all rest → WritesPart c before after all
+front_of c before after (Ok done) all rest is = inr (all_first c before after all is.text)
 front_of c before after (Err (BadFile fault block offset)) all rest is = text_first c before after all is.1
 front_of c before after (Err (NoSuchFrame first last)) all rest is = text_first c before after all is.1
 front_of c before after (Err ReadFault) all rest is = is.front

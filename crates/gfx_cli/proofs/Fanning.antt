@@ -25,6 +25,7 @@ replay_kept source sink end ends may read write later =
     record {
       ends = ends;
       keeps = λ range e. absurd cc;
+      leans = λ range e. absurd cc;
       same = λ e. absurd cc;
       listing = λ e. absurd cc;
       unlisted = λ e. absurd cc;

@@ -6,7 +6,7 @@ use Rattle.gfx_io.specs.Pieces.{AppendsPart}
 use Rattle.gfx_io.specs.Told.{IfTold, IsTold}
 use Rattle.gfx_decode.proofs.Told.{told_if}
 use Rattle.gfx_words.specs.declared.command.Command.{Command}
-use Rattle.gfx_words.specs.declared.command.Command.TheVariants.{Trim, Upgrade, List as Lists, Unlist as Unlists}
+use Rattle.gfx_words.specs.declared.command.Command.TheVariants.{Trim, Lean, Upgrade, List as Lists, Unlist as Unlists}
 use Rattle.gfx_cli.specs.CommandPromise.{KeepsCommand}
 use Rattle.gfx_cli.specs.Commands.{IsBad, IsBadLine, IsGood, LacksFrame, Reads}
 use Rattle.gfx_cli.specs.Ends.{Ends, EndsAlone, IsDone, Stops}
@@ -90,6 +90,7 @@ refused words source read reads sink taken writes notes result outside ends fron
       may = λ c named. wrong c named;
       done = λ e. absurd cc;
       keeps = λ e. absurd cc;
+      leans = λ e. absurd cc;
       same = λ e. absurd cc;
       lists = λ e. absurd cc;
       unlists = λ e. absurd cc;
@@ -116,6 +117,7 @@ refused words source read reads sink taken writes notes result outside ends fron
       may = λ c named. wrong c named;
       done = λ e. absurd cc;
       keeps = λ e. absurd cc;
+      leans = λ e. absurd cc;
       same = λ e. absurd cc;
       lists = λ e. absurd cc;
       unlists = λ e. absurd cc;
@@ -149,6 +151,7 @@ finished words c source sink notes noted faults are kept =
       may = λ other named. tt;
       done = λ e. (runs words c source sink (Ok tt) are kept, refl);
       keeps = λ e range named. kept.keeps range (sym (are.only (Trim range) named));
+      leans = λ e range named. kept.leans range (sym (are.only (Lean range) named));
       same = λ e named. kept.same (sym (are.only Upgrade named));
       lists = λ e named. kept.listing (sym (are.only Lists named));
       unlists = λ e named. kept.unlisted (sym (are.only Unlists named));
@@ -190,6 +193,7 @@ stopped words c source sink notes why result are kept told =
       may = λ other named. subst (λ k. MayEnd k result) (sym (are.only other named)) (ends_so c why result _ _ _ kept.may told.ends);
       done = λ is. not_done is;
       keeps = λ is. not_done is;
+      leans = λ is. not_done is;
       same = λ is. not_done is;
       lists = λ is. not_done is;
       unlists = λ is. not_done is;

@@ -5,7 +5,7 @@ use Rattle.gfx_model.specs.Blocks.{clean, bad}
 use Rattle.gfx_grammar.specs.Splitting.{blocks_of}
 use Rattle.gfx_words.specs.declared.range.FrameRange.{FrameRange}
 use Rattle.gfx_words.specs.declared.command.Command.{Command}
-use Rattle.gfx_words.specs.declared.command.Command.TheVariants.{Info, Replay, Trim, Upgrade, List as Lists, Unlist as Unlists, Make, Help, Version}
+use Rattle.gfx_words.specs.declared.command.Command.TheVariants.{Info, Replay, Trim, Lean, Upgrade, List as Lists, Unlist as Unlists, Make, Help, Version}
 use Rattle.gfx_player.specs.declared.asked.Asked.{Asked}
 use Rattle.gfx_player.specs.declared.asked.Asked.TheVariants.{All, Between}
 use Rattle.gfx_player.specs.Asked.{has_last}
@@ -17,6 +17,7 @@ use Rattle.gfx_trim.specs.Trims.{IsBehindLast}
 use Rattle.gfx_trim.specs.Written.{written}
 use Rattle.gfx_trial.specs.Text.{trial_text}
 use Rattle.gfx_upgrade.specs.Upgrades.{upgraded}
+use Rattle.gfx_feature_model.specs.Lean.{IsLean}
 use Rattle.gfx_feature_model.specs.Listing.{IsListing}
 use Rattle.gfx_grammar.specs.Reads.{AreBytes}
 use Rattle.gfx_text_grammar.specs.Splits.{is_without}
@@ -29,6 +30,7 @@ abbrev pub Reads : Command → Type 0
 Reads Info = ⊤
 Reads (Replay pixels frames) = ⊤
 Reads (Trim r) = ⊤
+Reads (Lean r) = ⊤
 Reads Upgrade = ⊤
 Reads Lists = ⊤
 Reads Unlists = ⊤
@@ -41,6 +43,7 @@ abbrev pub ReadsCapture : Command → Type 0
 ReadsCapture Info = ⊤
 ReadsCapture (Replay pixels frames) = ⊤
 ReadsCapture (Trim r) = ⊤
+ReadsCapture (Lean r) = ⊤
 ReadsCapture Upgrade = ⊤
 ReadsCapture Lists = ⊤
 ReadsCapture _ = ⊥
@@ -49,6 +52,7 @@ ReadsCapture _ = ⊥
 abbrev pub AsksForFrames : Command → Type 0
 AsksForFrames (Replay pixels frames) = ⊤
 AsksForFrames (Trim r) = ⊤
+AsksForFrames (Lean r) = ⊤
 AsksForFrames _ = ⊥
 
 -- the frames that the words ask for
@@ -65,6 +69,7 @@ abbrev pub IsGood : Command → List ℕ → Type 0
 IsGood Info bytes = (blocks_of bytes).end ≡ clean
 IsGood (Replay pixels frames) bytes = play.IsComplete (asked_by frames) bytes
 IsGood (Trim r) bytes = trim.IsInside r.first r.last (history_in bytes)
+IsGood (Lean r) bytes = trim.IsInside r.first r.last (history_in bytes)
 IsGood Upgrade bytes = (blocks_of bytes).end ≡ clean
 IsGood Lists bytes = (blocks_of bytes).end ≡ clean
 IsGood Unlists text = IsSomeListing text
@@ -77,6 +82,7 @@ abbrev pub IsBad : Command → Fault → ℕ → ℕ → List ℕ → Type 0
 IsBad Info fault block offset bytes = (blocks_of bytes).end ≡ bad fault block offset
 IsBad (Replay pixels frames) fault block offset bytes = (end_of bytes ≡ bad fault block offset) × (has_last (asked_by frames) (frames_in bytes) ≡ false)
 IsBad (Trim r) fault block offset bytes = (end_of bytes ≡ bad fault block offset) × trim.IsOutside r.first r.last (history_in bytes)
+IsBad (Lean r) fault block offset bytes = (end_of bytes ≡ bad fault block offset) × trim.IsOutside r.first r.last (history_in bytes)
 IsBad Upgrade fault block offset bytes = (blocks_of bytes).end ≡ bad fault block offset
 IsBad Lists fault block offset bytes = (blocks_of bytes).end ≡ bad fault block offset
 IsBad Unlists fault block offset bytes = ⊥
@@ -104,6 +110,7 @@ abbrev pub LacksFrame : Command → ℕ → ℕ → List ℕ → Type 0
 LacksFrame Info first last bytes = ⊥
 LacksFrame (Replay pixels frames) first last bytes = HasOnly (asked_by frames) first last bytes
 LacksFrame (Trim r) first last bytes = LacksRange r first last bytes
+LacksFrame (Lean r) first last bytes = LacksRange r first last bytes
 LacksFrame Upgrade first last bytes = ⊥
 LacksFrame Lists first last bytes = ⊥
 LacksFrame Unlists first last bytes = ⊥
@@ -124,6 +131,8 @@ GoesOn (Replay pixels frames) read =
     IsUnfinished (blocks_of read).items read × (end_of read ≡ (blocks_of read).end) × (has_last (asked_by frames) (frames_in read) ≡ false)
 GoesOn (Trim r) read =
     IsUnfinished (blocks_of read).items read × (end_of read ≡ (blocks_of read).end) × trim.IsOutside r.first r.last (history_in read)
+GoesOn (Lean r) read =
+    IsUnfinished (blocks_of read).items read × (end_of read ≡ (blocks_of read).end) × trim.IsOutside r.first r.last (history_in read)
 GoesOn Upgrade read = IsUnfinished (blocks_of read).items read
 GoesOn Lists read = IsUnfinished (blocks_of read).items read
 GoesOn Unlists read = (lines : List (List ℕ)) × (rest : List ℕ) × BeginsWith lines rest read × (is_without 10 rest ≡ true)
@@ -131,23 +140,25 @@ GoesOn (Make n) read = ⊥
 GoesOn Help read = ⊥
 GoesOn Version read = ⊥
 
--- what the command writes, where the file has all that it asks for
-abbrev pub text_by : Command → List ℕ → List ℕ
-text_by Info bytes = info_text bytes
-text_by (Replay pixels frames) bytes = play.text_in (asked_by frames) pixels bytes
-text_by (Trim r) bytes = written r.first r.last bytes
-text_by Upgrade bytes = upgraded bytes
-text_by Lists bytes = listed bytes
-text_by Unlists text = unlisted text
-text_by (Make n) bytes = trial_text n
-text_by Help bytes = help_text
-text_by Version bytes = version_line
+-- what was taken is what the command writes, where the file has all that it asks for
+abbrev pub Writes : Command → (List ℕ → Type 0) → List ℕ → Type 0
+Writes Info Took bytes = Took (info_text bytes)
+Writes (Replay pixels frames) Took bytes = Took (play.text_in (asked_by frames) pixels bytes)
+Writes (Trim r) Took bytes = Took (written r.first r.last bytes)
+Writes (Lean r) Took bytes = (out : List ℕ) × Took out × IsLean r.first r.last bytes out
+Writes Upgrade Took bytes = Took (upgraded bytes)
+Writes Lists Took bytes = Took (listed bytes)
+Writes Unlists Took text = Took (unlisted text)
+Writes (Make n) Took bytes = Took (trial_text n)
+Writes Help Took bytes = Took help_text
+Writes Version Took bytes = Took version_line
 
 -- what it writes before a bad block or a bad line, or before the end of a file without a frame that it asks for
 abbrev pub text_before : Command → List ℕ → List ℕ
 text_before Info bytes = []
 text_before (Replay pixels frames) bytes = play.lines_in (asked_by frames) pixels bytes
 text_before (Trim r) bytes = written r.first r.last bytes
+text_before (Lean r) bytes = []
 text_before Upgrade bytes = upgraded bytes
 text_before Lists bytes = listed bytes
 text_before Unlists text = unlisted text
@@ -160,6 +171,7 @@ abbrev pub Leaves : Command → List ℕ → List ℕ → Type 0
 Leaves Info bytes left = left ≡ []
 Leaves (Replay pixels frames) bytes left = play.Leaves (asked_by frames) bytes left
 Leaves (Trim r) bytes left = IsBehindLast r.last bytes left
+Leaves (Lean r) bytes left = IsBehindLast r.last bytes left
 Leaves Upgrade bytes left = left ≡ []
 Leaves Lists bytes left = left ≡ []
 Leaves Unlists text left = left ≡ []

@@ -6,12 +6,13 @@ use Rattle.gfx_io.specs.Told.{IfTold, IsTold}
 use Rattle.gfx_types.specs.declared.names.Fault.{Fault}
 use Rattle.gfx_model.specs.Text.{bad_line}
 use Rattle.gfx_trim.specs.Keeps.{Keeps}
+use Rattle.gfx_lean.specs.Leans.{Keeps as LeanKeeps}
 use Rattle.gfx_upgrade.specs.Laws.{TookSame}
 use Rattle.gfx_list.specs.Lists.{TookListing}
 use Rattle.gfx_list.specs.Unlists.{IsUnlisted}
 use Rattle.gfx_words.specs.declared.range.FrameRange.{FrameRange}
 use Rattle.gfx_words.specs.declared.command.Command.{Command}
-use Rattle.gfx_words.specs.declared.command.Command.TheVariants.{Trim, Upgrade, List as Lists, Unlist as Unlists}
+use Rattle.gfx_words.specs.declared.command.Command.TheVariants.{Trim, Lean, Upgrade, List as Lists, Unlist as Unlists}
 use Rattle.gfx_cli.specs.declared.status.Status.{Status}
 use Rattle.gfx_cli.specs.declared.status.Status.TheVariants as status
 use Rattle.gfx_cli.specs.declared.stop.Stop.TheVariants as stop
@@ -39,6 +40,9 @@ pub record KeepsFiles {S K N : Type 0} (words : List (List ℕ)) (source : Seen 
   -- of a file that was cut, the sink took one that ends cleanly and whose frames are exactly those of the range
   pub keeps : result ≡ status.Done → (range : FrameRange) → IsNamed words (Trim range)
       → IfTold source.bytes_before source.bytes_now (λ bytes _. Keeps range.first range.last sink.bytes_before sink.bytes_now bytes)
+  -- and so it is where what the range never needs was left out
+  pub leans : result ≡ status.Done → (range : FrameRange) → IsNamed words (Lean range)
+      → IfTold source.bytes_before source.bytes_now (λ bytes _. LeanKeeps range.first range.last sink.bytes_before sink.bytes_now bytes)
   -- of a file that was upgraded, the sink took one that has its history, its frames and its first bad block
   pub same : result ≡ status.Done → IsNamed words Upgrade
       → IfTold source.bytes_before source.bytes_now (λ bytes _. TookSame sink.bytes_before sink.bytes_now bytes)

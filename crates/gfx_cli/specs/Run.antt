@@ -11,8 +11,8 @@ use Rattle.gfx_cli.specs.declared.status.Status.TheVariants.{Done, WantMemory, U
 use Rattle.gfx_cli.specs.declared.stop.Stop.{Stop}
 use Rattle.gfx_cli.specs.declared.stop.Stop.TheVariants.{ReadFault as StoppedReading}
 use Rattle.gfx_words.specs.declared.command.Command.TheVariants.{Unlist as Unlists}
-use Rattle.gfx_cli.specs.Commands.{AsksForFrames, Reads, ReadsCapture, text_by}
-use Rattle.gfx_cli.specs.Ends.{Ends}
+use Rattle.gfx_cli.specs.Commands.{AsksForFrames, Reads, ReadsCapture, Writes}
+use Rattle.gfx_cli.specs.Ends.{Ends, WritesPart}
 use Rattle.gfx_cli.specs.Stop.{line_of}
 use Rattle.gfx_cli.specs.Text.{usage_line}
 use Rattle.gfx_cli.specs.Words.{IsNamed, IsOutside}
@@ -41,7 +41,7 @@ pub record Runs (words : List (List ℕ)) (left_old left_new taken_old taken_new
 pub record WritesFront (words : List (List ℕ)) (left_old left_new taken_old taken_new : Option (List ℕ)) : Type 0 where
   pub command : Command
   pub named : IsNamed words command
-  pub front : IfTold left_old left_new (λ bytes left. AppendsPart taken_old taken_new (text_by command bytes))
+  pub front : IfTold left_old left_new (λ bytes left. WritesPart command taken_old taken_new bytes)
 
 -- the statuses of a command
 abbrev pub MayEnd : Command → Status → Type 0
@@ -59,8 +59,8 @@ MayEnd c BadListing = c ≡ Unlists
 
 -- a command that reads no file wrote its text, or a front of it
 pub record RunsAlone (c : Command) (taken_old taken_new : Option (List ℕ)) (status : Status) : Type 0 where
-  pub text : status ≡ Done → Appends taken_old taken_new (text_by c [])
-  pub front : AppendsPart taken_old taken_new (text_by c [])
+  pub text : status ≡ Done → Writes c (Appends taken_old taken_new) []
+  pub front : Writes c (AppendsPart taken_old taken_new) []
 
 -- how often a source or a sink had failed before a call, and after it
 pub record Failures : Type 0 where

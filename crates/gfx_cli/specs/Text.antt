@@ -21,7 +21,7 @@ info_text bytes = at_clean (blocks_of bytes).end (counts_text (minor_of bytes) (
 
 -- what is noted where the words name no command
 abbrev pub usage_line : List ℕ
-usage_line = line (codes "usage: gfxcap info; replay [--pixels] [--frames A-B]; trim A-B; capture [--gather] [--frames A-B]; make N; upgrade; list; unlist; digests")
+usage_line = line (codes "usage: gfxcap info; replay [--pixels] [--frames A-B]; trim A-B; capture [--gather] [--frames A-B]; make N; upgrade; lean A-B; list; unlist; digests")
 
 -- what is noted where a read failed
 abbrev pub read_fault_line : List ℕ
@@ -59,7 +59,8 @@ help_text =
     usage_line
     ++ line (codes "A capture is read from standard input, and frames A to B are those with these numbers.")
     ++ line (codes "info describes it, replay writes a line with the digest of each frame, with --pixels its rows too,")
-    ++ line (codes "and trim writes the capture of these frames alone. make tries the program on a capture of N frames.")
+    ++ line (codes "and trim writes the capture of these frames alone, lean without what they never need. make tries the")
+    ++ line (codes "program on a capture of N frames.")
     ++ line (codes "upgrade writes the capture in version 2. list writes it as text, a line for each block, and unlist")
     ++ line (codes "makes the capture of such a text again. digests writes what replay does, on all processors.")
     ++ line (codes "capture runs the script that it reads on threads, and writes the capture of their calls, with --gather")

@@ -8,6 +8,7 @@ ghost use Rattle.gfx_words.specs.Commands.{Fits};
 ghost use Rattle.gfx_words.specs.Words.{FitsRange};
 ghost use Rattle.gfx_words.specs.declared.range.FrameRange.{FrameRange as Range};
 ghost use Rattle.gfx_trim.specs.Keeps.{Keeps};
+ghost use Rattle.gfx_lean.specs.Leans.{Keeps as LeanKeeps};
 ghost use Rattle.gfx_cli.specs.Commands.{Reads, asked_by};
 ghost use Rattle.gfx_trial.specs.Text.{trial_text};
 ghost use Rattle.gfx_upgrade.specs.Laws.{TookSame};
@@ -16,11 +17,12 @@ ghost use Rattle.gfx_list.specs.Unlists.{IsUnlisted};
 ghost use Rattle.gfx_cli.specs.Ends.{Ends, EndsAlone};
 ghost use Rattle.gfx_cli.specs.Stop.{IsUnwritten, MayStop};
 ghost use Rattle.gfx_cli.specs.Words.{IsNamed, IsOutside, IsOnly};
-ghost use Rattle.gfx_words.specs.declared.command.Command.TheVariants.{Info, Replay, Trim, Upgrade, List as Lists, Unlist as Unlists};
+ghost use Rattle.gfx_words.specs.declared.command.Command.TheVariants.{Info, Replay, Trim, Lean, Upgrade, List as Lists, Unlist as Unlists};
 
 use crate::Stop;
 use crate::info::write_counts;
 use gfx_io::{Sink, Source, write_whole};
+use gfx_lean::lean;
 use gfx_list::{list, unlist};
 use gfx_play::show_frames;
 use gfx_player::Asked;
@@ -31,10 +33,11 @@ use gfx_words::{Command, FrameRange};
 use std::alloc::Global;
 
 const HELP: &str =
-    "usage: gfxcap info; replay [--pixels] [--frames A-B]; trim A-B; capture [--gather] [--frames A-B]; make N; upgrade; list; unlist; digests
+    "usage: gfxcap info; replay [--pixels] [--frames A-B]; trim A-B; capture [--gather] [--frames A-B]; make N; upgrade; lean A-B; list; unlist; digests
 A capture is read from standard input, and frames A to B are those with these numbers.
 info describes it, replay writes a line with the digest of each frame, with --pixels its rows too,
-and trim writes the capture of these frames alone. make tries the program on a capture of N frames.
+and trim writes the capture of these frames alone, lean without what they never need. make tries the
+program on a capture of N frames.
 upgrade writes the capture in version 2. list writes it as text, a line for each block, and unlist
 makes the capture of such a text again. digests writes what replay does, on all processors.
 capture runs the script that it reads on threads, and writes the capture of their calls, with --gather
@@ -97,6 +100,25 @@ fn cut<S: Source, K: Sink>(
     ensures later { (S.faults source.old ≤ S.faults source.new) × (K.faults sink.old ≤ K.faults sink.new) }
 {
     trim(alloc, range.first, range.last, source, sink)?;
+    Ok(())
+}
+
+/// Writes the file of the frames of a range, without what they never need.
+fn lean_cut<S: Source, K: Sink>(
+    alloc: Global,
+    range: FrameRange,
+    source: &mut S,
+    sink: &mut K,
+) -> Result<(), Stop>
+    requires { FitsRange range }
+    ensures ends { IfTold (S.left source.old) (S.left source.new) (Ends (Lean range) (K.taken sink.old) (K.taken sink.new) result) }
+    ensures may { IfErr result (MayStop (Lean range)) }
+    ensures keeps { IfTold (S.left source.old) (S.left source.new) (λ bytes _. OnOk result (LeanKeeps range.first range.last (K.taken sink.old) (K.taken sink.new) bytes)) }
+    ensures read_fault { result ≡ Err Stop.ReadFault → Rose (S.faults source.old) (S.faults source.new) }
+    ensures write_fault { result ≡ Err Stop.WriteFault → Rose (K.faults sink.old) (K.faults sink.new) }
+    ensures later { (S.faults source.old ≤ S.faults source.new) × (K.faults sink.old ≤ K.faults sink.new) }
+{
+    lean(alloc, range.first, range.last, source, sink)?;
     Ok(())
 }
 
@@ -178,6 +200,7 @@ pub(crate) fn run_command<S: Source, K: Sink>(
     requires { Fits command }
     ensures ends { IfTold (S.left source.old) (S.left source.new) (Ends command (K.taken sink.old) (K.taken sink.new) result) }
     ensures keeps { (range : Range) → command ≡ Trim range → IfTold (S.left source.old) (S.left source.new) (λ bytes _. OnOk result (Keeps range.first range.last (K.taken sink.old) (K.taken sink.new) bytes)) }
+    ensures leans { (range : Range) → command ≡ Lean range → IfTold (S.left source.old) (S.left source.new) (λ bytes _. OnOk result (LeanKeeps range.first range.last (K.taken sink.old) (K.taken sink.new) bytes)) }
     ensures unread { ¬ Reads command → source.new ≡ source.old }
     ensures alone { ¬ Reads command → EndsAlone command (K.taken sink.old) (K.taken sink.new) result }
     ensures may { IfErr result (MayStop command) }
@@ -194,6 +217,7 @@ pub(crate) fn run_command<S: Source, K: Sink>(
         Command::Help => write_text(HELP, sink),
         Command::Version => write_text(VERSION, sink),
         Command::Trim(range) => cut(alloc, range, source, sink),
+        Command::Lean(range) => lean_cut(alloc, range, source, sink),
         Command::Upgrade => renew(alloc, source, sink),
         Command::List => write_listing(alloc, source, sink),
         Command::Unlist => read_listing(alloc, source, sink),

@@ -16,7 +16,7 @@ returns-in-Help-clause-ends g c =
     let after = g.K.Sink.taken c.write_text.new.sink in
     let at = c.write_text.ensures in
     subst (λ k. IfTold left left (Ends k before after c.write_text.result)) (sym c.in-Help.is)
-    (told_same left (Ends Help before after c.write_text.result) (λ bytes. text_ends Help before after c.write_text.result help_text bytes tt refl refl at.ok at.front at.why))
+    (told_same left (Ends Help before after c.write_text.result) (λ bytes. text_ends Help before after c.write_text.result help_text bytes tt refl (λ Took is. is) at.ok at.front at.why))
 
 pub returns-in-Version-clause-ends : goal.returns-in-Version-clause-ends
 returns-in-Version-clause-ends g c =
@@ -25,7 +25,7 @@ returns-in-Version-clause-ends g c =
     let after = g.K.Sink.taken c.write_text-in-Version.new.sink in
     let at = c.write_text-in-Version.ensures in
     subst (λ k. IfTold left left (Ends k before after c.write_text-in-Version.result)) (sym c.in-Version.is)
-    (told_same left (Ends Version before after c.write_text-in-Version.result) (λ bytes. text_ends Version before after c.write_text-in-Version.result version_line bytes tt refl refl at.ok at.front at.why))
+    (told_same left (Ends Version before after c.write_text-in-Version.result) (λ bytes. text_ends Version before after c.write_text-in-Version.result version_line bytes tt refl (λ Took is. is) at.ok at.front at.why))
 
 pub returns-in-Make-clause-ends : goal.returns-in-Make-clause-ends
 returns-in-Make-clause-ends g c =
@@ -35,7 +35,7 @@ returns-in-Make-clause-ends g c =
     let n = c.in-Make.frames in
     let at = c.make.ensures in
     subst (λ k. IfTold left left (Ends k before after c.make.result)) (sym c.in-Make.is)
-    (told_same left (Ends (Make n) before after c.make.result) (λ bytes. text_ends (Make n) before after c.make.result (trial_text n) bytes tt refl refl at.ok at.front at.why))
+    (told_same left (Ends (Make n) before after c.make.result) (λ bytes. text_ends (Make n) before after c.make.result (trial_text n) bytes tt refl (λ Took is. is) at.ok at.front at.why))
 
 pub returns-in-Help-clause-alone : goal.returns-in-Help-clause-alone
 returns-in-Help-clause-alone g c reads =

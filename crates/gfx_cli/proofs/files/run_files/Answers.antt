@@ -16,6 +16,7 @@ returns-in-Ok g c =
     (record {
       ends = c.in-Ok.ensures.ends;
       keeps = c.in-Ok.ensures.keeps;
+      leans = c.in-Ok.ensures.leans;
       same = c.in-Ok.ensures.same;
       listing = c.in-Ok.ensures.listing;
       unlisted = c.in-Ok.ensures.unlisted;
@@ -34,6 +35,7 @@ returns-in-Err g c =
     (record {
       ends = c.in-Err.ensures.ends;
       keeps = c.in-Err.ensures.keeps;
+      leans = c.in-Err.ensures.leans;
       same = c.in-Err.ensures.same;
       listing = c.in-Err.ensures.listing;
       unlisted = c.in-Err.ensures.unlisted;
