@@ -1,13 +1,28 @@
 //! Every file and each range of frames inside it: what is shown of the cut is what is shown of the range.
 
-use gfx_outside::{Outside, PIXELS, trim};
+use gfx_outside::{Ended, Outside, PIXELS, trim};
 use gfx_samples::files::{ONE_TEXEL, TWO_IMAGES, file_of, one_frame, three_frames};
 use gfx_samples::scenes::all;
 use gfx_samples::variants;
 use std::process::Abort;
 use std::test::Fail;
 
-/// Cuts a range out of a file, and compares what is shown of the cut with what is shown of the range.
+/// Cuts a range out of a file by the command of this word, compares what is shown of the cut with what is shown of the range, and answers how many bytes it has.
+fn cut_by<'a>(
+    rt: &(impl Abort + AllocGlobal),
+    (word, range): (&'a str, &'a str),
+    file: &'a [u8],
+    whole: &Ended,
+) -> Result<usize, Fail> {
+    let words = [word, range];
+    let cut = Outside::of(&words, file).run(rt.alloc())?;
+    assert_eq!(rt; cut.status, 0, "{word} {range}");
+    assert_eq!(rt; cut.left, whole.left, "{word} {range}");
+    Outside::of(PIXELS, &cut.text).ends(rt.alloc(), 0, &whole.text, b"")?;
+    Ok(cut.text.len())
+}
+
+/// Cuts a range out of a file, with all that stands before it and lean. What is shown of both is what is shown of the range, and the lean cut is no longer.
 fn assert_same<'a>(
     rt: &(impl Abort + AllocGlobal),
     file: &'a [u8],
@@ -16,10 +31,10 @@ fn assert_same<'a>(
     let words = ["replay", "--pixels", "--frames", range];
     let whole = Outside::of(&words, file).run(rt.alloc())?;
     assert_eq!(rt; whole.status, 0, "of {range}");
-    let cut = trim(rt.alloc(), range, file)?;
-    assert_eq!(rt; cut.status, 0, "of {range}");
-    assert_eq!(rt; cut.left, whole.left, "of {range}");
-    Outside::of(PIXELS, &cut.text).ends(rt.alloc(), 0, &whole.text, b"")
+    let all = cut_by(rt, ("trim", range), file, &whole)?;
+    let lean = cut_by(rt, ("lean", range), file, &whole)?;
+    assert!(rt; lean <= all, "of {range}");
+    Ok(())
 }
 
 /// Compares the ranges that begin with this frame.

@@ -4,13 +4,14 @@ use gfx_outside::Outside;
 use std::test::Fail;
 
 const USAGE: &[u8] =
-    b"usage: gfxcap info; replay [--pixels] [--frames A-B]; trim A-B; capture [--gather] [--frames A-B]; make N; upgrade; list; unlist; digests\n";
+    b"usage: gfxcap info; replay [--pixels] [--frames A-B]; trim A-B; capture [--gather] [--frames A-B]; make N; upgrade; lean A-B; list; unlist; digests\n";
 
 const HELP: &[u8] =
-    b"usage: gfxcap info; replay [--pixels] [--frames A-B]; trim A-B; capture [--gather] [--frames A-B]; make N; upgrade; list; unlist; digests
+    b"usage: gfxcap info; replay [--pixels] [--frames A-B]; trim A-B; capture [--gather] [--frames A-B]; make N; upgrade; lean A-B; list; unlist; digests
 A capture is read from standard input, and frames A to B are those with these numbers.
 info describes it, replay writes a line with the digest of each frame, with --pixels its rows too,
-and trim writes the capture of these frames alone. make tries the program on a capture of N frames.
+and trim writes the capture of these frames alone, lean without what they never need. make tries the
+program on a capture of N frames.
 upgrade writes the capture in version 2. list writes it as text, a line for each block, and unlist
 makes the capture of such a text again. digests writes what replay does, on all processors.
 capture runs the script that it reads on threads, and writes the capture of their calls, with --gather
