@@ -11,7 +11,7 @@ use gfx_player::Asked;
 use gfx_recorder::Outcome;
 use std::alloc::Global;
 
-/// Writes what a run left: the frames that are asked for where each call was accepted, and else the whole log.
+/// Writes what a run left, and lets go of it.
 pub(crate) fn write_outcome<K: Sink>(
     alloc: Global,
     asked: Asked,
@@ -24,19 +24,41 @@ pub(crate) fn write_outcome<K: Sink>(
     ensures sink_fault { result ≡ Err RecordingFault.SinkFault → Rose (K.faults sink.old) (K.faults sink.new) }
     ensures later { K.faults sink.old ≤ K.faults sink.new }
 {
+    write_left(alloc, asked, &outcome, sink)
+}
+
+/// Writes what a run left: the frames that are asked for where each call was accepted, and else the whole log.
+fn write_left<K: Sink>(
+    alloc: Global,
+    asked: Asked,
+    outcome: &Outcome,
+    sink: &mut K,
+) -> Result<(), RecordingFault>
+    requires { IsOrdered asked }
+    ensures means { LeftMeans outcome.now }
+    ensures wrote { Writes asked (K.taken sink.old) (K.taken sink.new) outcome.now result }
+    ensures sink_fault { result ≡ Err RecordingFault.SinkFault → Rose (K.faults sink.old) (K.faults sink.new) }
+    ensures later { K.faults sink.old ≤ K.faults sink.new }
+{
     match outcome {
-        Outcome::Done { log } => write_asked(alloc, asked, &log, sink),
+        Outcome::Done { log } => write_asked(alloc, asked, log, sink),
         Outcome::Refused {
             line,
             fault,
             at,
             log,
-        } => write_halted(&log, RecordingFault::CallRefused { line, fault, at }, sink),
+        } => {
+            let (line, fault, at) = (*line, *fault, *at);
+            write_halted(log, RecordingFault::CallRefused { line, fault, at }, sink)
+        }
         Outcome::LogFull {
             length,
             wanted,
             log,
-        } => write_halted(&log, RecordingFault::LogFull { length, wanted }, sink),
+        } => {
+            let (length, wanted) = (*length, *wanted);
+            write_halted(log, RecordingFault::LogFull { length, wanted }, sink)
+        }
         Outcome::WantMemory => Err(RecordingFault::WantMemory),
     }
 }
