@@ -45,6 +45,10 @@ pub(crate) fn remove_front(buffer: &mut Vec<u8>, count: usize)
     requires { count ≤ vec_len buffer.old }
     ensures { buffer.new.items ≡ drop count buffer.old.items }
 {
+    // a long line is read in many pieces, and must not be moved for each
+    if count == 0 {
+        return;
+    }
     let length = buffer.len();
     buffer.copy_within(count..length, 0);
     buffer.truncate(length - count);
