@@ -7,7 +7,7 @@ use Rattle.gfx_model.specs.Blocks.{Whole, minor_of}
 use Rattle.gfx_model.specs.Blocks.End.{clean}
 use Rattle.gfx_model.specs.History.{is_valid, view}
 use Rattle.gfx_model.specs.Meaning.{frames_to}
-use Rattle.gfx_model.specs.Spelling.{encoding, header}
+use Rattle.gfx_model.specs.Spelling.{header}
 use Rattle.gfx_model.specs.Trimmed.{Cut, boundary, file_of, history_to, range_from}
 use Rattle.gfx_model.proofs.Cutting.{cut_follows}
 use Rattle.gfx_feature_model.specs.Lean.{IsLean, Keep, KeepsNeeded, events_in, kept_section}
@@ -17,7 +17,6 @@ use Rattle.gfx_grammar.specs.Splitting.{Blocks, blocks_of}
 use Rattle.gfx_section_law.specs.Law.{IsAtBoundary}
 use Rattle.gfx_trim_law.proofs.Each.{begun_is_shown}
 use Rattle.gfx_trim_law.proofs.Range.{in_range}
-use Rattle.gfx_lean_law.proofs.KeptCovers.{kept_is, kept_shape, made}
 use Rattle.gfx_lean_law.proofs.LeanFiles.{lean_keeps_frames}
 use Rattle.gfx_decode.proofs.Told.{told_if}
 use Rattle.gfx_state.proofs.Versions.{kept_in_versions}
@@ -31,13 +30,17 @@ use Rattle.gfx_player.specs.Walks.{HasRead, IsReadAlike}
 use Rattle.gfx_player.proofs.Judging.{judged_given}
 use Rattle.gfx_player.proofs.Walking.{fed_begins, read_alike, refused_stops}
 use Rattle.gfx_range.specs.Follower.{Refuses}
+use Rattle.gfx_range.specs.Range.{IsGathered}
+use Rattle.gfx_replay.specs.Replayer.{StandsFor}
+use Rattle.gfx_replay.specs.declared.replayer.Replayer.{Replayer}
 use Rattle.gfx_trim.specs.Cutters.{Ends}
 use Rattle.gfx_trim.specs.Numbers.{IsOutside}
 use Rattle.gfx_trim.proofs.Files.{behind_last, has_shown, none_outside, outside_phase, valid_history}
 use Rattle.gfx_trim.proofs.Keeping.{HasShown, file_shows, has_range}
 use Rattle.gfx_trim.proofs.Numbers.{inside}
-use Rattle.gfx_lean.specs.Leaner.{GoesOn, HasRangeOf, IsAfter, IsFailed, IsWhole, Wrote, WrotePart}
+use Rattle.gfx_lean.specs.Leaner.{GoesOn, HasRangeOf, IsFailed, IsWhole, Wrote, WrotePart}
 use Rattle.gfx_lean.specs.Leans.{Answers, AnswersIfBytes, IsPart}
+use Rattle.gfx_lean.specs.Reading.{Leaned, Leaning}
 use Rattle.gfx_lean.specs.Written.{lean_text}
 use Rattle.gfx_lean.specs.declared.leaner.Leaner.{Leaner}
 
@@ -74,14 +77,6 @@ is_lean first last m all ws keep ordered h b fit same whole needs =
     }
 
 -- ---- a file that is being cut
-
--- blocks of a file were read and taken, none of them the last of the range
-pub record Leaning (first last : ℕ) (p : Player) (c : Leaner) (fed : List Whole) (file left : Option (List ℕ)) : Type 0 where
-  pub stands : IsAfter c p fed
-  pub read : HasRead p fed file left
-  pub first_is : c.first ≡ first
-  pub last_is : c.last ≡ last
-  pub minor_is : c.minor ≡ p.minor
 
 outside_of : (first last : ℕ) (p : Player) (c : Leaner) (fed : List Whole) (file left : Option (List ℕ)) → first ≤ last → Leaning first last p c fed file left → IsOutside first last (history_of fed)
 outside_of first last p c fed file left ordered g =
@@ -177,33 +172,41 @@ file_ends first last p c fed why file left rest taken ordered g told is =
 
 -- ---- the last block of the range
 
-module _ (first last : ℕ) (p mid : Player) (old new : Leaner) (fed : List Whole) (w : Whole) (file left rest before after : Option (List ℕ)) (ordered : first ≤ last) (g : Leaning first last p old fed file left)
-    (read : HasRead mid (fed ++ w ∷ []) file rest) (minor : mid.minor ≡ p.minor) (q : Player) (ends : IsWhole old new q fed w) where
+-- it was taken
+pub lean_whole : (first last : ℕ) (p mid q : Player) (old new : Leaner) (fed : List Whole) (w : Whole) (file left rest : Option (List ℕ)) → Leaning first last p old fed file left →
+    HasRead mid (fed ++ w ∷ []) file rest → mid.minor ≡ p.minor → IsReadAlike mid q → IsWhole old new q fed w → Leaned first last q new file rest
+lean_whole first last p mid q old new fed w file left rest c read minor same is =
+    let ws : List Whole = fed ++ w ∷ [] in
+    record {
+      fed = fed;
+      block = w;
+      ends = subst (λ a. Ends a last fed w) c.first_is (subst (λ b. Ends old.first b fed w) c.last_is is.ends);
+      has = subst (λ a. HasRangeOf a new.range q ws) (sym is.range.first) is.has;
+      all = subst (λ a. range_from last (boundary a ws) ≡ (boundary a ws).rest) c.first_is
+          (subst (λ b. range_from b (boundary old.first ws) ≡ (boundary old.first ws).rest) c.last_is is.all);
+      read = read_alike mid q ws file rest same read;
+      first_is = is.range.first ∙ c.first_is;
+      minor_is = is.range.minor ∙ c.minor_is ∙ sym minor ∙ sym same.minor;
+    }
+
+module _ (first last : ℕ) (p : Player) (c : Leaner) (file rest before after : Option (List ℕ)) (ordered : first ≤ last) (g : Leaned first last p c file rest) where
   abbrev ws : List Whole
-  ws = fed ++ w ∷ []
+  ws = g.fed ++ g.block ∷ []
 
-  at : Ends first last fed w
-  at = subst (λ a. Ends a last fed w) g.first_is (subst (λ b. Ends old.first b fed w) g.last_is ends.ends)
-
-  whole : range_from last (boundary first ws) ≡ (boundary first ws).rest
-  whole = subst (λ a. range_from last (boundary a ws) ≡ (boundary a ws).rest) g.first_is (subst (λ b. range_from b (boundary old.first ws) ≡ (boundary old.first ws).rest) g.last_is ends.all)
-
-  lean_as : (keep : Keep) (all : List ℕ) → BeginsWith ws all → AreBytes all → mid.minor ≡ minor_of all → KeepsNeeded (history_to (boundary new.first ws)) (events_in (boundary new.first ws).rest) keep →
-      IsLean first last all (lean_text new.minor keep (history_to (boundary new.first ws)) new.first (flat_map (λ w. w.bytes) (boundary new.first ws).rest))
+  lean_as : (keep : Keep) (all : List ℕ) → BeginsWith ws all → AreBytes all → p.minor ≡ minor_of all → KeepsNeeded (history_to (boundary c.first ws)) (events_in (boundary c.first ws).rest) keep →
+      IsLean first last all (lean_text c.minor keep (history_to (boundary c.first ws)) c.first (flat_map (λ w. w.bytes) (boundary c.first ws).rest))
   lean_as keep all b fit same needs =
-      let is : new.first ≡ first = ends.range.first ∙ g.first_is in
-      let m : new.minor ≡ minor_of all = ends.range.minor ∙ g.minor_is ∙ sym minor ∙ same in
-      subst (λ a. IsLean first last all (lean_text new.minor keep (history_to (boundary a ws)) a (flat_map (λ w. w.bytes) (boundary a ws).rest))) (sym is)
-      (is_lean first last new.minor all ws keep ordered (has_shown first last fed w at) b fit m whole
-      (subst (λ a. KeepsNeeded (history_to (boundary a ws)) (events_in (boundary a ws).rest) keep) is needs))
+      subst (λ a. IsLean first last all (lean_text c.minor keep (history_to (boundary a ws)) a (flat_map (λ w. w.bytes) (boundary a ws).rest))) (sym g.first_is)
+      (is_lean first last c.minor all ws keep ordered (has_shown first last g.fed g.block g.ends) b fit (g.minor_is ∙ same) g.all
+      (subst (λ a. KeepsNeeded (history_to (boundary a ws)) (events_in (boundary a ws).rest) keep) g.first_is needs))
 
-  pub lean_done : Wrote new.minor new.first (history_to (boundary new.first ws)) (boundary new.first ws).rest before after → IfTold file rest (AnswersIfBytes first last before after (Ok tt))
+  lean_done : Wrote c.minor c.first (history_to (boundary c.first ws)) (boundary c.first ws).rest before after → IfTold file rest (AnswersIfBytes first last before after (Ok tt))
   lean_done wrote =
-      told_if file rest _ (AnswersIfBytes first last before after (Ok tt)) read.told
+      told_if file rest _ (AnswersIfBytes first last before after (Ok tt)) g.read.told
       (λ all rest was fit.
-      let b = fed_begins ws mid.decoder all rest was.0 in
-      let h = has_shown first last fed w at in
-      let out = lean_text new.minor wrote.keep (history_to (boundary new.first ws)) new.first (flat_map (λ w. w.bytes) (boundary new.first ws).rest) in
+      let b = fed_begins ws p.decoder all rest was.0 in
+      let h = has_shown first last g.fed g.block g.ends in
+      let out = lean_text c.minor wrote.keep (history_to (boundary c.first ws)) c.first (flat_map (λ w. w.bytes) (boundary c.first ws).rest) in
       let lean = lean_as wrote.keep all b fit was.1 wrote.keeps in
       let range = has_range first last ws all ordered h b fit in (
         record {
@@ -213,7 +216,7 @@ module _ (first last : ℕ) (p mid : Player) (old new : Leaner) (fed : List Whol
           out = out;
           took = wrote.file;
           lean = lean;
-          behind = behind_last last mid all rest fed w was.0 at.shows;
+          behind = behind_last last p all rest g.fed g.block was.0 g.ends.shows;
         },
         record {
           out = out;
@@ -225,38 +228,30 @@ module _ (first last : ℕ) (p mid : Player) (old new : Leaner) (fed : List Whol
         },
       ))
 
-  part_of_lean : (all : List ℕ) → BeginsWith ws all → AreBytes all → mid.minor ≡ minor_of all → WrotePart new.minor new.first (history_to (boundary new.first ws)) (boundary new.first ws).rest before after →
+  part_of_lean : (all : List ℕ) → BeginsWith ws all → AreBytes all → p.minor ≡ minor_of all → WrotePart c.minor c.first (history_to (boundary c.first ws)) (boundary c.first ws).rest before after →
       IsPart first last before after all
   part_of_lean all b fit same wrote = record {
-    out = lean_text new.minor wrote.keep (history_to (boundary new.first ws)) new.first (flat_map (λ w. w.bytes) (boundary new.first ws).rest);
+    out = lean_text c.minor wrote.keep (history_to (boundary c.first ws)) c.first (flat_map (λ w. w.bytes) (boundary c.first ws).rest);
     took = wrote.file;
     lean = lean_as wrote.keep all b fit same wrote.keeps;
   }
 
-  pub write_fails : (why : PlayFault) → IsFailed new.minor new.first (history_to (boundary new.first ws)) (boundary new.first ws).rest before after why → IfTold file rest (AnswersIfBytes first last before after (Err why))
+  write_fails : (why : PlayFault) → IsFailed c.minor c.first (history_to (boundary c.first ws)) (boundary c.first ws).rest before after why → IfTold file rest (AnswersIfBytes first last before after (Err why))
   write_fails (play.Bad fault block offset) left = absurd left
   write_fails (play.NoSuchFrame low high) left = absurd left
   write_fails play.ReadFault left = absurd left
   write_fails play.SinkFault left =
-      told_if file rest _ (AnswersIfBytes first last before after (Err play.SinkFault)) read.told
-      (λ all rest was fit. (part_of_lean all (fed_begins ws mid.decoder all rest was.0) fit was.1 left, tt))
+      told_if file rest _ (AnswersIfBytes first last before after (Err play.SinkFault)) g.read.told
+      (λ all rest was fit. (part_of_lean all (fed_begins ws p.decoder all rest was.0) fit was.1 left, tt))
   write_fails play.WantMemory (inl none) =
-      told_if file rest _ (AnswersIfBytes first last before after (Err play.WantMemory)) read.told (λ all rest was fit. (inl none, tt))
+      told_if file rest _ (AnswersIfBytes first last before after (Err play.WantMemory)) g.read.told (λ all rest was fit. (inl none, tt))
   write_fails play.WantMemory (inr part) =
-      told_if file rest _ (AnswersIfBytes first last before after (Err play.WantMemory)) read.told
-      (λ all rest was fit. (inr (part_of_lean all (fed_begins ws mid.decoder all rest was.0) fit was.1 part), tt))
-
-  -- the state and the blocks of the range, behind its last block
-  pub whole_has : HasRangeOf new.first new.range q ws
-  whole_has = subst (λ a. HasRangeOf a new.range q ws) (sym ends.range.first) ends.has
+      told_if file rest _ (AnswersIfBytes first last before after (Err play.WantMemory)) g.read.told
+      (λ all rest was fit. (inr (part_of_lean all (fed_begins ws p.decoder all rest was.0) fit was.1 part), tt))
 
   -- what the write of the lean file leaves
-  pub write_ends : (r : Result (Unit {0}) PlayFault) → OnOk r (Wrote new.minor new.first (history_to (boundary new.first ws)) (boundary new.first ws).rest before after) →
-      IfErr r (IsFailed new.minor new.first (history_to (boundary new.first ws)) (boundary new.first ws).rest before after) → IfTold file rest (AnswersIfBytes first last before after r)
-  write_ends (Ok u) wrote left = lean_done wrote
-  write_ends (Err why) wrote left = write_fails why left
-
--- what holds where a call was done
-pub on_ok : {T E : Type 0} (r : Result T E) (P Q : Type 0) → OnOk r P → (P → Q) → OnOk r Q
-on_ok (Ok t) P Q p f = f p
-on_ok (Err e) P Q p f = tt
+  pub write_ends : (s : Replayer) (r : Result (Unit {0}) PlayFault) → StandsFor s (history_to (boundary c.first ws)) →
+      OnOk r ((h : List Event) (ws : List Whole) → StandsFor s h → IsGathered c.range h ws → Wrote c.minor c.first h ws before after) →
+      IfErr r (λ why. (h : List Event) (ws : List Whole) → StandsFor s h → IsGathered c.range h ws → IsFailed c.minor c.first h ws before after why) → IfTold file rest (AnswersIfBytes first last before after r)
+  write_ends s (Ok u) stands wrote left = lean_done (wrote (history_to (boundary c.first ws)) (boundary c.first ws).rest stands g.has.gathered)
+  write_ends s (Err why) stands wrote left = write_fails why (left (history_to (boundary c.first ws)) (boundary c.first ws).rest stands g.has.gathered)

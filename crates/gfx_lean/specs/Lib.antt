@@ -1,3 +1,4 @@
 pub mod Leaner
 pub mod Leans
+pub mod Reading
 pub mod Written

@@ -12,7 +12,7 @@ ghost use Rattle.gfx_range.specs.Range.{IsGathered};
 ghost use Rattle.gfx_replay.specs.Replayer.{StandsFor};
 ghost use Rattle.gfx_trim.specs.Phases.{Continues};
 
-use crate::writing::write_lean;
+use crate::writing::write_range;
 use gfx_decode::Raw;
 use gfx_io::Sink;
 use gfx_player::{PlayFault, Player};
@@ -175,9 +175,6 @@ impl Leaner {
         ensures later { K.faults sink.old ≤ K.faults sink.new }
         ensures cause { result ≡ Err PlayFault.SinkFault → Rose (K.faults sink.old) (K.faults sink.new) }
     {
-        let minor = self.minor;
-        let first = self.first;
-        let (keep, blocks) = self.range.needs(replayer.tracker())?;
-        write_lean(alloc, minor, first, replayer, &keep, &blocks, sink)
+        write_range(alloc, self.minor, self.first, self.range, replayer, sink)
     }
 }
