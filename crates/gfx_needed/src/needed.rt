@@ -1,6 +1,6 @@
 //! The ids that a range of events needs.
 ghost use Rattle.std.specs.Prelude.{◌≡◌, ◌≤◌, ◌+◌, ◌∷◌, ◌++◌, [], List, true, flat_map, IfOk, OnOk};
-ghost use Rattle.gfx_model.specs.Events.{Event, event_of};
+ghost use Rattle.gfx_model.specs.Events.{Event, event_of, event_of_call};
 ghost use Rattle.gfx_model.specs.Questions.{is_kept};
 ghost use Rattle.gfx_model.specs.Views as view;
 ghost use Rattle.gfx_objects.specs.Object.{detail_of};
@@ -16,7 +16,7 @@ use gfx_params::{ParamFault, decode};
 use gfx_state::fetched;
 use gfx_table::UsedIds;
 use gfx_tracker::Tracker;
-use gfx_types::{Effect, Place, WantMemory};
+use gfx_types::{Call, Effect, Place, WantMemory};
 use std::alloc::{AllocError, Global};
 
 /// The ids that a range of events needs of what stands before it, as far as they were found. A tracker says what stands
@@ -161,14 +161,19 @@ impl NeededIds {
         ensures { OnOk result (Marks (answers tracker.now) (ids_in (event_in command.now)) self.old self.new) }
     {
         match decode(self.alloc, 1, command.call_id, command.params.items()) {
-            Ok(call) => {
-                let mut ids = Vec::new(self.alloc);
-                list_call(&call, &mut ids)?;
-                self.mark_all(tracker, &ids)
-            }
+            Ok(call) => self.mark_call(tracker, &call),
             Err(ParamFault::BadParams) => unreachable!(),
             Err(ParamFault::WantMemory) => Err(AllocError),
         }
+    }
+
+    // Marks what a call names or creates.
+    fn mark_call(&mut self, tracker: &Tracker, call: &Call<'_>) -> Result<(), AllocError>
+        ensures { OnOk result (Marks (answers tracker.now) (ids_in (event_of_call call.now)) self.old self.new) }
+    {
+        let mut ids = Vec::new(self.alloc);
+        list_call(call, &mut ids)?;
+        self.mark_all(tracker, &ids)
     }
 
     // Marks those of the ids that are live.
