@@ -18,10 +18,6 @@ pub(crate) trait HasIds {
 #[derive(Clone, Copy, Debug)]
 pub(crate) struct Id(pub u64);
 
-/// A value without ids.
-#[derive(Clone, Copy, Debug)]
-pub(crate) struct Other<T>(pub T);
-
 /// The end of the fields.
 #[derive(Clone, Copy, Debug)]
 pub(crate) struct End;
@@ -31,14 +27,6 @@ impl HasIds for Id {
 
     fn list(&self, ids: &mut Vec<u64>) -> Result<(), AllocError> {
         Ok(ids.push(self.0)?)
-    }
-}
-
-impl<T> HasIds for Other<T> {
-    ghost listed = { λ _. [] };
-
-    fn list(&self, _: &mut Vec<u64>) -> Result<(), AllocError> {
-        Ok(())
     }
 }
 

@@ -4,12 +4,12 @@ ghost use Rattle.gfx_model.specs.Events.{event_of, event_of_call, event_of_meta}
 ghost use Rattle.gfx_model.specs.Spelling.{id_of};
 ghost use Rattle.gfx_needed.specs.Fields.{ids_in};
 
-use crate::fields::{End, HasIds, Id, Other};
+use crate::fields::{End, HasIds, Id};
 use gfx_params::call_id;
 use gfx_types::{Call, Effect, Meta, calls, metas};
 use std::alloc::{AllocError, Global};
 
-/// Fields by their marks, as pairs of a field and the fields behind it.
+/// The fields with ids, by their marks, as pairs of a field and the fields behind it.
 macro_rules! marked {
     ($field:ident: names $($behind:tt)*) => { (Id(*$field), behind!($($behind)*)) };
     ($field:ident: maybe $($behind:tt)*) => { (Id(*$field), behind!($($behind)*)) };
@@ -18,7 +18,7 @@ macro_rules! marked {
     ($field:ident: makes_each $($behind:tt)*) => { ($field, behind!($($behind)*)) };
     ($field:ident: records $($behind:tt)*) => { ($field, behind!($($behind)*)) };
     ($field:ident: submitted $($behind:tt)*) => { ($field, behind!($($behind)*)) };
-    ($field:ident: $mark:ident $($behind:tt)*) => { (Other($field), behind!($($behind)*)) };
+    ($field:ident: $mark:ident $($behind:tt)*) => { behind!($($behind)*) };
 }
 
 /// The fields behind a comma, or the end.
