@@ -1,7 +1,9 @@
 //! The frames of a file, shown as it is read.
-ghost use Rattle.std.specs.Prelude.{◌≡◌, ◌≤◌, Err};
+ghost use Rattle.std.specs.Prelude.{◌≡◌, ◌≤◌, ℕ, List, [], Err};
+ghost use Rattle.std.specs.declared.option.Option.{Option as Maybe};
 ghost use Rattle.gfx_io.specs.Causes.{Rose};
 ghost use Rattle.gfx_io.specs.Told.{IfTold};
+ghost use Rattle.gfx_player.specs.Walks.{Plays};
 ghost use Rattle.gfx_play.specs.Shows.{Answers};
 
 use crate::screen::Screen;
@@ -26,6 +28,25 @@ pub fn show_frames<S: Source, K: Sink>(
     ensures later { (S.faults source.old ≤ S.faults source.new) × (K.faults sink.old ≤ K.faults sink.new) }
 {
     let mut player = Player::open(alloc, source)?;
+    show_opened(alloc, asked, pixels, &mut player, source, sink)
+}
+
+// The loop only borrows the player: each exit of an owner lets go of it field by field, which takes long to prove.
+fn show_opened<S: Source, K: Sink>(
+    alloc: Global,
+    asked: Asked,
+    pixels: bool,
+    player: &mut Player,
+    source: &mut S,
+    sink: &mut K,
+) -> Result<(), PlayFault>
+    requires { (file : Maybe (List ℕ)) × Plays player.old [] file (S.left source.old) }
+    ensures told { (file : Maybe (List ℕ)) → Plays player.old [] file (S.left source.old)
+        → IfTold file (S.left source.new) (Answers asked pixels (K.taken sink.old) (K.taken sink.new) result) }
+    ensures read_fault { result ≡ Err PlayFault.ReadFault → Rose (S.faults source.old) (S.faults source.new) }
+    ensures sink_fault { result ≡ Err PlayFault.SinkFault → Rose (K.faults sink.old) (K.faults sink.new) }
+    ensures later { (S.faults source.old ≤ S.faults source.new) × (K.faults sink.old ≤ K.faults sink.new) }
+{
     let listing = Listing {
         minor: player.minor(),
         pixels,
@@ -37,9 +58,9 @@ pub fn show_frames<S: Source, K: Sink>(
     };
     let mut buffer = Vec::new(alloc);
     'frames: while let Some(frame) = player.next_frame(source, &mut buffer)? {
-        if screen.show(alloc, &frame, &player, sink)? {
+        if screen.show(alloc, &frame, player, sink)? {
             return screen.finish(alloc, sink);
         }
     }
-    screen.end(alloc, &player, sink)
+    screen.end(alloc, player, sink)
 }
