@@ -1,7 +1,9 @@
 //! A range of frames of a file, written as the file is read.
-ghost use Rattle.std.specs.Prelude.{◌≡◌, ◌≤◌, Err};
+ghost use Rattle.std.specs.Prelude.{◌≡◌, ◌≤◌, ℕ, List, [], Err};
+ghost use Rattle.std.specs.declared.option.Option.{Option as Maybe};
 ghost use Rattle.gfx_io.specs.Causes.{Rose};
 ghost use Rattle.gfx_io.specs.Told.{IfTold};
+ghost use Rattle.gfx_player.specs.Walks.{HasRead, HasReplayed};
 ghost use Rattle.gfx_trim.specs.Trims.{Answers, AnswersKeeping, KeepsIfDone};
 
 use crate::cutter::Cutter;
@@ -46,10 +48,31 @@ fn cut_range<S: Source, K: Sink>(
     ensures later { (S.faults source.old ≤ S.faults source.new) × (K.faults sink.old ≤ K.faults sink.new) }
 {
     let mut player = Player::open(alloc, source)?;
+    cut_opened(alloc, first, last, &mut player, source, sink)
+}
+
+// The loop only borrows the player: each exit of an owner lets go of it field by field, which takes long to prove.
+fn cut_opened<S: Source, K: Sink>(
+    alloc: Global,
+    first: u64,
+    last: u64,
+    player: &mut Player,
+    source: &mut S,
+    sink: &mut K,
+) -> Result<(), PlayFault>
+    requires ordered { first ≤ last }
+    requires replayed { HasReplayed player.old [] }
+    requires read { (file : Maybe (List ℕ)) × HasRead player.old [] file (S.left source.old) }
+    ensures told { (file : Maybe (List ℕ)) → HasRead player.old [] file (S.left source.old)
+        → IfTold file (S.left source.new) (AnswersKeeping first last (K.taken sink.old) (K.taken sink.new) result) }
+    ensures read_fault { result ≡ Err PlayFault.ReadFault → Rose (S.faults source.old) (S.faults source.new) }
+    ensures sink_fault { result ≡ Err PlayFault.SinkFault → Rose (K.faults sink.old) (K.faults sink.new) }
+    ensures later { (S.faults source.old ≤ S.faults source.new) × (K.faults sink.old ≤ K.faults sink.new) }
+{
     let mut cutter = Cutter::new(alloc, first, last, player.minor());
     let mut buffer = Vec::new(alloc);
     'reading: while let Some(raw) = player.next(source, &mut buffer)? {
-        if cutter.take(alloc, &mut player, raw, sink)? {
+        if cutter.take(alloc, player, raw, sink)? {
             return Ok(());
         }
     }
