@@ -1,7 +1,9 @@
 //! The digest of a range of frames, as their file is read.
-ghost use Rattle.std.specs.Prelude.{◌≡◌, ◌≢◌, ◌≤◌, ◌<◌, Err, length};
+ghost use Rattle.std.specs.Prelude.{◌≡◌, ◌≢◌, ◌≤◌, ◌<◌, ℕ, List, [], Err, length};
+ghost use Rattle.std.specs.declared.option.Option.{Option as Maybe};
 ghost use Rattle.gfx_io.specs.Causes.{Rose};
 ghost use Rattle.gfx_io.specs.Told.{IfTold};
+ghost use Rattle.gfx_player.specs.Walks.{Plays};
 ghost use Rattle.gfx_digest.specs.Digests.{Digests, DigestsAsked};
 
 use crate::hasher::FrameHasher;
@@ -52,10 +54,29 @@ fn digest_asked<S: Source>(
     ensures later { S.faults source.old ≤ S.faults source.new }
 {
     let mut player = Player::open(alloc, source)?;
+    digest_opened(alloc, asked, piece, &mut player, source)
+}
+
+// The loop only borrows the player: each exit of an owner lets go of it field by field, which takes long to prove.
+fn digest_opened<S: Source>(
+    alloc: Global,
+    asked: Asked,
+    piece: &mut [u8],
+    player: &mut Player,
+    source: &mut S,
+) -> Result<Digested, PlayFault>
+    requires space { 0 < length piece.old }
+    requires plays { (file : Maybe (List ℕ)) × Plays player.old [] file (S.left source.old) }
+    ensures told { (file : Maybe (List ℕ)) → Plays player.old [] file (S.left source.old)
+        → IfTold file (S.left source.new) (DigestsAsked asked result) }
+    ensures read_fault { result ≡ Err PlayFault.ReadFault → Rose (S.faults source.old) (S.faults source.new) }
+    ensures unwritten { result ≢ Err PlayFault.SinkFault }
+    ensures later { S.faults source.old ≤ S.faults source.new }
+{
     let mut hasher = FrameHasher::new(asked);
     let mut buffer = Vec::new(alloc);
     'frames: while let Some(frame) = player.next_frame(source, &mut buffer)? {
-        if hasher.take(&frame, &player, piece) {
+        if hasher.take(&frame, player, piece) {
             return Ok(hasher.finish());
         }
     }
