@@ -1,5 +1,5 @@
 //! The frames of a file, decoded and digested by several threads as it is read.
-ghost use Rattle.std.specs.Prelude.{◌≡◌, ◌≤◌, ◌<◌, ℕ, List, Ok, Err, IfOk, IfErr, false};
+ghost use Rattle.std.specs.Prelude.{◌≡◌, ◌≤◌, ◌<◌, ℕ, List, [], Ok, Err, IfOk, IfErr, false};
 ghost use Rattle.std.specs.declared.option.Option.{Option as Maybe};
 ghost use Rattle.gfx_types.specs.declared.frame.Frame.{Frame};
 ghost use Rattle.gfx_io.specs.Causes.{Rose};
@@ -37,14 +37,7 @@ pub fn digests<R: Threads + Sync, S: Source, K: Sink>(
 {
     let player = Player::open(alloc, source)?;
     let mut walk = Walk::new(alloc, player);
-    'groups: loop {
-        let ending = walk.next_group(rt, source, sink)?;
-        match ending {
-            Ending::Full => (),
-            Ending::Clean => return walk.end(rt, sink),
-            Ending::Stopped(why) => return Err(walk.stop(rt, sink, why)),
-        }
-    }
+    walk.run(rt, source, sink)
 }
 
 /// A file that is read, replayed and shown group by group.
@@ -73,6 +66,32 @@ impl Walk {
             group: Group::new(alloc),
             buffer: Vec::new(alloc),
             alloc,
+        }
+    }
+
+    /// Goes on to the end of the file. The loop only borrows the walk: each exit of an owner lets go of it field by field,
+    /// which takes long to prove.
+    fn run<R: Threads + Sync, S: Source, K: Sink>(
+        &mut self,
+        rt: &R,
+        source: &mut S,
+        sink: &mut K,
+    ) -> Result<(), PlayFault>
+        requires place { IsAtBlock self.old.player }
+        requires gathering { (file : Maybe (List ℕ)) × Gathering self.old.player self.old.album [] file (S.left source.old) (K.taken sink.old) (K.taken sink.old) }
+        ensures told { (file : Maybe (List ℕ)) → Gathering self.old.player self.old.album [] file (S.left source.old) (K.taken sink.old) (K.taken sink.old)
+            → IfTold file (S.left source.new) (Answers Asked.All false (K.taken sink.old) (K.taken sink.new) result) }
+        ensures read_fault { result ≡ Err PlayFault.ReadFault → Rose (S.faults source.old) (S.faults source.new) }
+        ensures sink_fault { result ≡ Err PlayFault.SinkFault → Rose (K.faults sink.old) (K.faults sink.new) }
+        ensures later { (S.faults source.old ≤ S.faults source.new) × (K.faults sink.old ≤ K.faults sink.new) }
+    {
+        'groups: loop {
+            let ending = self.next_group(rt, source, sink)?;
+            match ending {
+                Ending::Full => (),
+                Ending::Clean => return self.end(rt, sink),
+                Ending::Stopped(why) => return Err(self.stop(rt, sink, why)),
+            }
         }
     }
 
