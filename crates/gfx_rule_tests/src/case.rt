@@ -83,10 +83,20 @@ fn first_refused(
 ) -> Result<Option<Broken>, Fail> {
     let mut tracker = Tracker::new(alloc);
     let mut ops = OpList::of(Vec::new(alloc));
+    refused_by(rt, &mut tracker, &mut ops, effects)
+}
+
+// The loop only borrows the tracker: each exit of an owner lets go of it field by field, which takes long to prove.
+fn refused_by(
+    rt: &impl Abort,
+    tracker: &mut Tracker,
+    ops: &mut OpList,
+    effects: &[Effect<'_>],
+) -> Result<Option<Broken>, Fail> {
     'effects: for (at, effect) in effects.iter().enumerate() {
         let length = ops.items().len();
         let told = tracker.fault_of(effect);
-        match tracker.apply(effect, &mut ops) {
+        match tracker.apply(effect, ops) {
             Ok(_) => assert_eq!(rt; told, None),
             Err(ApplyFault::Rule(fault)) => {
                 assert_eq!(rt; (told, ops.items().len()), (Some(fault), length));

@@ -5,7 +5,7 @@ use crate::reading::{effects_of, fields_of, spelled};
 use crate::runs::DRAWN;
 use gfx_commands::{CbState, Recordings, Totals};
 use gfx_tracker::Tracker;
-use gfx_types::OpList;
+use gfx_types::{Effect, OpList};
 use std::alloc::Global;
 use std::process::Abort;
 use std::test::Fail;
@@ -15,13 +15,24 @@ fn tracker_after(alloc: Global, run: &[Entry], count: usize) -> Result<Tracker, 
     let fields = spelled(alloc, run)?;
     let effects = effects_of(alloc, run, fields.as_slice())?;
     let mut tracker = Tracker::new(alloc);
+    take_all(alloc, &mut tracker, effects.as_slice(), count)?;
+    Ok(tracker)
+}
+
+// The tracker takes the first effects.
+fn take_all(
+    alloc: Global,
+    tracker: &mut Tracker,
+    effects: &[Effect<'_>],
+    count: usize,
+) -> Result<(), Fail> {
     let mut ops = OpList::of(Vec::new(alloc));
     'effects: for effect in effects.iter().take(count) {
         if tracker.apply(effect, &mut ops).is_err() {
             return Err("an effect is refused".into());
         }
     }
-    Ok(tracker)
+    Ok(())
 }
 
 // The commands of a buffer are the entries from one index to another, as they are spelled.

@@ -217,11 +217,9 @@ fn assert_kept(alloc: Global, listing: &[u8], kept: &[u8]) -> Result<(), Fail> {
     Outside::of(LEAN, &cut.text).ends(alloc, 0, &cut.text, b"")
 }
 
-fn joined(alloc: Global, lists: &[&[&str]]) -> Result<Vec<u8>, Fail> {
+fn joined(alloc: Global, pieces: &[&str]) -> Result<Vec<u8>, Fail> {
     let mut text = Vec::new(alloc);
-    for list in lists {
-        append(&mut text, list)?;
-    }
+    append(&mut text, pieces)?;
     Ok(text)
 }
 
@@ -232,42 +230,53 @@ fn append(text: &mut Vec<u8>, pieces: &[&str]) -> Result<(), Fail> {
     Ok(())
 }
 
+/// The file that the commands of frame 2 are put into.
+fn whole_of(alloc: Global, commands: &[&str]) -> Result<Vec<u8>, Fail> {
+    let mut text = joined(
+        alloc,
+        &[
+            HEADER,
+            DEVICE,
+            SWAPCHAIN,
+            FENCE,
+            MEMORY,
+            MAPPED,
+            FIRST_PAGE,
+            SECOND_PAGE,
+            BUFFER,
+            IMAGE,
+            OTHER_MEMORY,
+            OTHER_MAPPED,
+            OTHER_BYTES,
+            OTHER_BUFFER,
+            POOL,
+            CLEARED,
+            SHOWN,
+            RESET,
+            BEGUN,
+        ],
+    )?;
+    append(&mut text, commands)?;
+    append(&mut text, &[ENDED])?;
+    Ok(text)
+}
+
+/// Its lean cut, where this is kept of memories, buffers and images.
+fn lean_of(alloc: Global, kept: &[&str], commands: &[&str]) -> Result<Vec<u8>, Fail> {
+    let mut text = joined(alloc, &[HEADER, BEGIN, DEVICE])?;
+    append(&mut text, kept)?;
+    append(&mut text, &[KEPT, RESET, BEGUN])?;
+    append(&mut text, commands)?;
+    append(&mut text, &[ENDED])?;
+    Ok(text)
+}
+
 #[test]
 fn just_the_bytes_that_a_frame_reads_are_kept(rt: HostRuntime) -> Result<(), Fail> {
     let alloc = rt.alloc();
-    let made = [
-        HEADER,
-        DEVICE,
-        SWAPCHAIN,
-        FENCE,
-        MEMORY,
-        MAPPED,
-        FIRST_PAGE,
-        SECOND_PAGE,
-        BUFFER,
-        IMAGE,
-        OTHER_MEMORY,
-        OTHER_MAPPED,
-        OTHER_BYTES,
-        OTHER_BUFFER,
-        POOL,
-        CLEARED,
-        SHOWN,
-        RESET,
-        BEGUN,
-    ];
     for Case { commands, kept } in CASES {
-        let listing = joined(alloc, &[&made, commands, &[ENDED]])?;
-        let wanted = joined(
-            alloc,
-            &[
-                &[HEADER, BEGIN, DEVICE],
-                kept,
-                &[KEPT, RESET, BEGUN],
-                commands,
-                &[ENDED],
-            ],
-        )?;
+        let listing = whole_of(alloc, commands)?;
+        let wanted = lean_of(alloc, kept, commands)?;
         assert_kept(alloc, &listing, &wanted)?;
     }
     Ok(())
@@ -278,7 +287,7 @@ fn just_the_objects_that_a_frame_stands_on_are_kept(rt: HostRuntime) -> Result<(
     let alloc = rt.alloc();
     let listing = joined(
         alloc,
-        &[&[
+        &[
             HEADER,
             DEVICE,
             SWAPCHAIN,
@@ -298,11 +307,11 @@ fn just_the_objects_that_a_frame_stands_on_are_kept(rt: HostRuntime) -> Result<(
             SHOWN,
             RESET,
             SHOWN,
-        ]],
+        ],
     )?;
     let kept = joined(
         alloc,
-        &[&[
+        &[
             HEADER,
             BEGIN,
             DEVICE,
@@ -313,7 +322,7 @@ fn just_the_objects_that_a_frame_stands_on_are_kept(rt: HostRuntime) -> Result<(
             KEPT_RECORDED,
             RESET,
             SHOWN,
-        ]],
+        ],
     )?;
     assert_kept(alloc, &listing, &kept)
 }
