@@ -4,15 +4,15 @@
     commands.py [PROGRAM] [NAME..]
 
 Each input is made twice, four times as large the second time, and names of inputs choose among them. The growth is how many times as long
-the command takes over the larger one, and is to be at most 5; of runs below 20 ms it says little, since starting the program is most of them. The
+the command takes over the larger one, in time of processors, and is to be at most 5; of runs below 20 ms it says little. The
 program is built by the script `gfxcap` at the top of the repository, or is the one that the first word names. Inputs are made in
 /tmp/gfxcap_hostile and stay there.
 """
 import os
 import random
+import resource
 import subprocess
 import sys
-import time
 
 TOP = os.path.dirname(os.path.dirname(os.path.dirname(os.path.abspath(__file__))))
 sys.path.insert(0, os.path.join(TOP, "examples"))
@@ -182,7 +182,7 @@ def copies_of_scattered_bytes(n):
 
 def copies_that_spread(n):
     """Each copy asks for every second byte of twice as many, as far as there are bytes."""
-    regions = [(2 * at, at, 1) for at in range(1024)]
+    regions = [(2 * at, at, 1) for at in range(256)]
     yield from two_frames(copies(n, regions))
 
 
@@ -245,7 +245,7 @@ INPUTS = [
         for make, n in (
             (copies_there_and_back, 1000),
             (copies_of_scattered_bytes, 100),
-            (copies_that_spread, 10),
+            (copies_that_spread, 100),
             (unneeded_objects, 10000),
             (needed_objects, 10000),
             (filled_pages, 500),
@@ -263,13 +263,18 @@ def written(make, n):
     return path
 
 
+def spent():
+    used = resource.getrusage(resource.RUSAGE_CHILDREN)
+    return 1000 * (used.ru_utime + used.ru_stime)
+
+
 def milliseconds(program, words, path, wanted):
     least = None
     for _ in range(RUNS):
         with open(path, "rb") as data:
-            start = time.perf_counter()
+            start = spent()
             ran = subprocess.run([program, *words.split()], stdin=data, stdout=subprocess.DEVNULL, stderr=subprocess.PIPE, text=True)
-            took = 1000 * (time.perf_counter() - start)
+            took = spent() - start
         if ran.returncode != wanted:
             sys.exit(f"{words} of {path}: status {ran.returncode}, {ran.stderr.strip()}")
         least = took if least is None else min(least, took)
