@@ -91,6 +91,24 @@ const OTHER_BUFFER: &str = "thread=0 vkCreateBuffer device=3 buffer=14 size=64 u
 thread=0 vkBindBufferMemory device=3 buffer=14 memory=13 offset=0
 ";
 
+/// A third memory, with bytes on both sides of the border of its pages, a buffer over all of it, and an image of two rows from that border on.
+const ROWS_MEMORY: &str = "thread=0 vkAllocateMemory device=3 memory=17 size=131072\n";
+
+const ROWS_BEFORE: &str = "thread=0 FillMemory memory=17 offset=65533 bytes=676869\n";
+
+const ROWS_BEHIND: &str = "thread=0 FillMemory memory=17 offset=65536 bytes=6a6b6c\n";
+
+const ROWS_MAPPED: &str = "thread=0 vkMapMemory device=3 memory=17 offset=0 size=131072\n";
+
+const ROWS_BUFFER: &str = "thread=0 vkCreateBuffer device=3 buffer=18 size=131072 usage=3
+thread=0 vkBindBufferMemory device=3 buffer=18 memory=17 offset=0
+";
+
+const ROWS_IMAGE: &str =
+    "thread=0 vkCreateImage device=3 image=19 format=13 width=3 height=2 usage=3
+thread=0 vkBindImageMemory device=3 image=19 memory=17 offset=65536
+";
+
 /// Three texels from the beginning of the buffer.
 const UPLOAD: &str =
     "thread=0 vkCmdCopyBufferToImage cb=12 source=9 target=6 layout=7 regions=[(0,0,0,0,0,3,1)]\n";
@@ -118,7 +136,7 @@ struct Case {
     kept: &'static [&'static str],
 }
 
-const CASES: [Case; 7] = [
+const CASES: [Case; 8] = [
     // all bytes come from a clear
     Case {
         commands: &["thread=0 vkCmdClearColorImage cb=12 image=6 layout=7 c0=0 c1=0 c2=0 c3=0\n"],
@@ -179,6 +197,22 @@ thread=0 vkCmdCopyImage cb=12 source=15 source_layout=6 target=6 target_layout=7
 ",
         ],
         kept: &[MEMORY, FIRST_PAGE, MAPPED, IMAGE],
+    },
+    // the second row of a region reads what its first row wrote
+    Case {
+        commands: &[
+            "thread=0 vkCmdPipelineBarrier cb=12 barriers=[(19,0,1)]
+thread=0 vkCmdCopyBufferToImage cb=12 source=18 target=19 layout=1 regions=[(65533,0,0,0,0,3,2)]
+thread=0 vkCmdCopyImage cb=12 source=19 source_layout=1 target=6 target_layout=7 regions=[(0,1,0,0,3,1)]
+",
+        ],
+        kept: &[
+            ROWS_MEMORY,
+            ROWS_BEFORE,
+            ROWS_MAPPED,
+            ROWS_BUFFER,
+            ROWS_IMAGE,
+        ],
     },
 ];
 
@@ -249,6 +283,12 @@ fn whole_of(alloc: Global, commands: &[&str]) -> Result<Vec<u8>, Fail> {
             OTHER_MAPPED,
             OTHER_BYTES,
             OTHER_BUFFER,
+            ROWS_MEMORY,
+            ROWS_MAPPED,
+            ROWS_BEFORE,
+            ROWS_BEHIND,
+            ROWS_BUFFER,
+            ROWS_IMAGE,
             POOL,
             CLEARED,
             SHOWN,
