@@ -17,8 +17,9 @@ The parts are
                replayed, and `digests` says the same
 
 and all of them where none is named. The captures are those of examples/, recorded from its scripts, and small ones of the scripts
-in bench/; some are cut and upgraded. Each change is drawn by SEED and its number alone. For each part a line says how
-many answers were wrong and how the processes ended. Inputs of wrong answers are kept in FOLDER. The status is 1 where there are any.
+in bench/; some are cut and upgraded. Each change is drawn by SEED and its number alone; the log of three_recorders.script has another
+order from run to run. For each part a line says how many answers were wrong and how the processes ended. Inputs of wrong answers
+are kept in FOLDER. The status is 1 where there are any.
 """
 import argparse
 import bisect
