@@ -140,7 +140,7 @@ GoesOn (Make n) read = ⊥
 GoesOn Help read = ⊥
 GoesOn Version read = ⊥
 
--- what was taken is what the command writes, where the file has all that it asks for
+-- Took holds of what the command writes, where the file has all that it asks for
 abbrev pub Writes : Command → (List ℕ → Type 0) → List ℕ → Type 0
 Writes Info Took bytes = Took (info_text bytes)
 Writes (Replay pixels frames) Took bytes = Took (play.text_in (asked_by frames) pixels bytes)
