@@ -1,17 +1,17 @@
 -- Memories with their places, after a write and after the first fill went.
-use Rattle.std.proofs.Common.{◌≡◌, ℕ, zero, suc, ◌+◌, ◌-◌, ◌<◌, ◌≤◌, false, refl, ap, sym, subst, ◌∙◌, List, [], ◌∷◌, ◌++◌, map, length, set, get_or, drop, ◌⊎◌, Option, Some, None, arith, inl, inr}
+use Rattle.std.proofs.Common.{◌≡◌, ℕ, zero, suc, ◌+◌, ◌-◌, ◌<◌, false, refl, ap, sym, subst, ◌∙◌, List, [], ◌∷◌, ◌++◌, length, set, get_or, drop, ◌⊎◌, Some, None, arith}
 use Rattle.std.specs.List.{slice_get}
 use Rattle.std.specs.Ordering.{nat_cmp}
 use Rattle.std.specs.FinMap as fin
-use Rattle.std.proofs.lemmas.List.{map-append, length-map, length-append, drop-append-le, get_or-drop, length-drop, drop-drop, set-get_or}
-use Rattle.std.proofs.Math.Seq.{drop-cons, drop-length}
+use Rattle.std.proofs.lemmas.List.{map-append, length-map, length-append, drop-append-le, get_or-drop, length-drop, drop-drop}
+use Rattle.std.proofs.Math.Seq.{drop-length}
 use Rattle.gfx_model.specs.Checks.{is_among}
 use Rattle.gfx_shadow.specs.declared.memory.MemoryBytes.{MemoryBytes}
 use Rattle.gfx_shadow.specs.declared.memories.Memories.{Memories}
 use Rattle.gfx_shadow.specs.Writes.{write_of, MayHold, fills}
 use Rattle.gfx_shadow.specs.Overlay.{nothing, overlay, IsFirst as IsFirstRun, IsDropped}
 use Rattle.gfx_shadow.specs.Rows.{AreRows, rows_fills}
-use Rattle.gfx_shadow.specs.Windows.{windows_byte}
+use Rattle.gfx_shadow.specs.Stretches.{stretches_byte}
 use Rattle.gfx_shadow.specs.Memories.{rows_of, numbers_of, fills_of}
 use Rattle.gfx_shadow.specs.Places.{left_of, held_by, IsAt, ArePlaces, AreIndexed, IsFirst}
 use Rattle.gfx_shadow.proofs.Places.{numbers_left, set_left, numbers_set, inside_left, stands_left, row_left, number_at, places_new, places_fewer, places_none}
@@ -46,7 +46,7 @@ module _ (m n : Memories) (at memory o : ℕ) (bs : List ℕ) (r x : MemoryBytes
             (subst (λ l. ArePlaces m.first l n.places.map) (sym numbers_same) (subst (ArePlaces m.first (numbers_of m.rows.items)) (sym places) h.places));
       }
 
-  module _ (bytes : windows_byte x.windows ≡ windows_byte r.windows) where
+  module _ (bytes : stretches_byte x.stretches ≡ stretches_byte r.stretches) where
     same_rows : rows_of (left_of n) ≡ rows_of (left_of m)
     same_rows =
         ap rows_of left_is
@@ -59,7 +59,7 @@ module _ (m n : Memories) (at memory o : ℕ) (bs : List ℕ) (r x : MemoryBytes
     pub kept_fills : held_by n ≡ held_by m
     kept_fills = ap rows_fills same_rows
 
-  module _ (may : MayHold (write_of memory o bs)) (bytes : windows_byte x.windows ≡ overlay o bs (windows_byte r.windows)) where
+  module _ (may : MayHold (write_of memory o bs)) (bytes : stretches_byte x.stretches ≡ overlay o bs (stretches_byte r.stretches)) where
     pub written_indexed : AreIndexed n
     written_indexed = indexed_by (subst (λ l. AreRows (rows_of l)) (sym left_is)
         (there_rows (left_of m) (at - m.first) memory o bs r x h.rows (inside_left m.rows.items m.first memory at place) (stands_left m.rows.items m.first memory at place)
@@ -74,7 +74,7 @@ module _ (m n : Memories) (at memory o : ℕ) (bs : List ℕ) (r x : MemoryBytes
 -- ---- a memory that is new
 
 module _ (m n : Memories) (memory o : ℕ) (bs : List ℕ) (x : MemoryBytes) (h : AreIndexed m) (new : is_among memory (drop m.first (numbers_of m.rows.items)) ≡ false)
-    (number : x.memory ≡ memory) (may : MayHold (write_of memory o bs)) (bytes : windows_byte x.windows ≡ overlay o bs nothing)
+    (number : x.memory ≡ memory) (may : MayHold (write_of memory o bs)) (bytes : stretches_byte x.stretches ≡ overlay o bs nothing)
     (rows : n.rows.items ≡ m.rows.items ++ x ∷ []) (first : n.first ≡ m.first) (places : n.places.map ≡ fin.insert m.places.map memory (length m.rows.items)) where
   longer_left : left_of n ≡ left_of m ++ x ∷ []
   longer_left = (λ i. drop (first i) (rows i)) ∙ drop-append-le m.first m.rows.items (x ∷ []) h.front
@@ -147,7 +147,7 @@ module _ (m n : Memories) (memory : ℕ) (h : IsFirst m memory) (places : n.plac
 
 module _ (m n : Memories) (r x : MemoryBytes) (h : AreIndexed m) (some : m.first < length m.rows.items) (is : r ≡ get_or m.rows.items m.first r) (same : x.memory ≡ r.memory)
     (rows : n.rows.items ≡ set m.rows.items m.first x) (first : n.first ≡ m.first) (places : n.places.map ≡ m.places.map)
-    (went : IsDropped (windows_byte r.windows) (windows_byte x.windows) ⊎ ((windows_byte r.windows ≡ nothing) × (windows_byte x.windows ≡ nothing))) where
+    (went : IsDropped (stretches_byte r.stretches) (stretches_byte x.stretches) ⊎ ((stretches_byte r.stretches ≡ nothing) × (stretches_byte x.stretches ≡ nothing))) where
   at_front : IsAt m.first (numbers_of m.rows.items) r.memory m.first
   at_front =
       let e = length-map m.rows.items (λ m. m.memory) in
@@ -168,8 +168,8 @@ module _ (m n : Memories) (r x : MemoryBytes) (h : AreIndexed m) (some : m.first
   not_empty : length (left_of m) ≡ 0 → ⊥
   not_empty z = let e = length-drop m.first m.rows.items in omega (arith, e, some, z)
 
-  dropped : IsDropped (windows_byte r.windows) (windows_byte x.windows)
-  dropped = was_dropped (left_of m) r (windows_byte x.windows) not_empty front_is h.rows went
+  dropped : IsDropped (stretches_byte r.stretches) (stretches_byte x.stretches)
+  dropped = was_dropped (left_of m) r (stretches_byte x.stretches) not_empty front_is h.rows went
 
   left_set : left_of n ≡ set (left_of m) 0 x
   left_set =
@@ -177,7 +177,7 @@ module _ (m n : Memories) (r x : MemoryBytes) (h : AreIndexed m) (some : m.first
       left_is m n m.first r.memory 0 [] r x h at_front is same rows first places ∙ ap (λ k. set (left_of m) k x) e
 
   -- more is held for the memory
-  pub shorter_indexed : (windows_byte x.windows ≡ nothing → ⊥) → AreIndexed n
+  pub shorter_indexed : (stretches_byte x.stretches ≡ nothing → ⊥) → AreIndexed n
   shorter_indexed more = indexed_by m n m.first r.memory 0 [] r x h at_front is same rows first places
       (subst (λ l. AreRows (rows_of l)) (sym left_set) (dropped_rows (left_of m) r x not_empty front_is h.rows same dropped more))
 
@@ -215,7 +215,7 @@ module _ (m n : Memories) (r x : MemoryBytes) (h : AreIndexed m) (some : m.first
       head [] e g = refl
       head (y ∷ l) e g = ap (λ k. is_among k.memory (numbers_of l)) e ∙ ap (is_among y.memory) (sym (rows-numbers l)) ∙ g.1
 
-  pub last_fills : (n' : Memories) → left_of n' ≡ drop 1 (left_of n) → windows_byte x.windows ≡ nothing → held_by n' ≡ drop 1 (held_by m)
+  pub last_fills : (n' : Memories) → left_of n' ≡ drop 1 (left_of n) → stretches_byte x.stretches ≡ nothing → held_by n' ≡ drop 1 (held_by m)
   last_fills n' left none =
       ap fills_of (left ∙ ap (drop 1) left_set) ∙ dropped_last (left_of m) r x not_empty front_is h.rows same dropped none
 
@@ -228,10 +228,10 @@ module _ (m : Memories) (r : MemoryBytes) (h : AreIndexed m) (some : m.first < l
   some_left : length (left_of m) ≡ 0 → ⊥
   some_left z = let e = length-drop m.first m.rows.items in omega (arith, e, some, z)
 
-  pub first_is_held : (a : ℕ) (bytes : List ℕ) → IsFirstRun (windows_byte r.windows) a bytes → slice_get (held_by m) 0 ≡ Some (write_of r.memory a bytes)
+  pub first_is_held : (a : ℕ) (bytes : List ℕ) → IsFirstRun (stretches_byte r.stretches) a bytes → slice_get (held_by m) 0 ≡ Some (write_of r.memory a bytes)
   first_is_held a bytes run = first_fill (left_of m) r a bytes some_left front_here run
 
-  pub first_has_bytes : windows_byte r.windows ≡ nothing → ⊥
+  pub first_has_bytes : stretches_byte r.stretches ≡ nothing → ⊥
   first_has_bytes none = first_held (left_of m) r some_left front_here h.rows none
 
 -- no memory

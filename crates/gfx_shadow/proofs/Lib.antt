@@ -4,13 +4,13 @@ pub mod Puts
 pub mod Serve
 pub mod First
 pub mod Pastes
-pub mod CellBytes
+pub mod StretchBytes
 pub mod Rows
 pub mod Adding
 pub mod MemoryRows
 pub mod Keys
 pub mod Places
 pub mod Indexed
-pub mod WindowBytes
+pub mod ByEnd
 pub mod Renamed
 pub mod Longest

@@ -4,22 +4,22 @@ use Rattle.std.specs.List.{slice_get}
 use Rattle.std.proofs.lemmas.List.{map-append, set-get_or}
 use Rattle.std.proofs.lemmas.Bool.{cases_lt, lt-ltb, le-leb, eq-eqb}
 use Rattle.gfx_model.specs.Checks.{is_among}
-use Rattle.gfx_shadow.specs.declared.windows.Windows.{Windows}
+use Rattle.gfx_shadow.specs.declared.stretches.Stretches.{Stretches}
 use Rattle.gfx_shadow.specs.declared.memory.MemoryBytes.{MemoryBytes}
 use Rattle.gfx_shadow.specs.Writes.{write_of, MayHold, fills, runs, in_memory, memory_limit}
 use Rattle.gfx_shadow.specs.Overlay.{nothing, overlay, IsFirst, IsDropped}
 use Rattle.gfx_shadow.specs.Rows.{Row, rows_fills, AreRows}
-use Rattle.gfx_shadow.specs.Windows.{windows_byte}
+use Rattle.gfx_shadow.specs.Stretches.{stretches_byte}
 use Rattle.gfx_shadow.specs.Memories.{row_of, rows_of, numbers_of, fills_of}
 use Rattle.gfx_shadow.proofs.Bytes.{run_byte, run_byte-runs}
-use Rattle.gfx_shadow.proofs.WindowBytes.{all_below}
+use Rattle.gfx_shadow.proofs.ByEnd.{all_below}
 use Rattle.gfx_shadow.proofs.First.{runs_is_first, runs_dropped, first_below}
 use Rattle.gfx_shadow.proofs.Rows.{numbers, rows_added}
 use Rattle.gfx_shadow.proofs.Adding.{written, written_is, adds_there, rows_set, row_at, adds_new, rows_new}
 
-pub windows_below : (w : Windows) (i : ℕ) → memory_limit ≤ i → windows_byte w i ≡ None
-unfolding windows_byte
-windows_below w i l = all_below w.windows.map w.apart i l
+pub stretches_below : (w : Stretches) (i : ℕ) → memory_limit ≤ i → stretches_byte w i ≡ None
+unfolding stretches_byte
+stretches_below w i l = all_below w.by_end.map i l
 
 -- ---- lists of rows
 
@@ -44,14 +44,14 @@ rows-numbers (m ∷ ms) = ap (λ l. m.memory ∷ l) (rows-numbers ms)
 -- ---- a memory that is there
 
 module _ (ms : List MemoryBytes) (at memory o : ℕ) (bs : List ℕ) (r x : MemoryBytes) (rows : AreRows (rows_of ms)) (low : at < length ms) (stands : (d : MemoryBytes) → (get_or ms at d).memory ≡ memory) (is : r ≡ get_or ms at r) (same : x.memory ≡ r.memory) where
-  pub there_same : windows_byte x.windows ≡ windows_byte r.windows → rows_of (set ms at x) ≡ rows_of ms
+  pub there_same : stretches_byte x.stretches ≡ stretches_byte r.stretches → rows_of (set ms at x) ≡ rows_of ms
   there_same h =
       rows-set ms at x
       ∙ (λ i. set (rows_of ms) at (record { memory = same i; byte = h i }))
       ∙ ap (λ y. set (rows_of ms) at y) (ap row_of is ∙ sym (rows-at ms at r))
       ∙ set-get_or (rows_of ms) at (row_of r)
 
-  module _ (may : MayHold (write_of memory o bs)) (bytes : windows_byte x.windows ≡ overlay o bs (windows_byte r.windows)) where
+  module _ (may : MayHold (write_of memory o bs)) (bytes : stretches_byte x.stretches ≡ overlay o bs (stretches_byte r.stretches)) where
     old : Row
     old = get_or (rows_of ms) at (row_of r)
 
@@ -96,7 +96,7 @@ module _ (ms : List MemoryBytes) (at memory o : ℕ) (bs : List ℕ) (r x : Memo
 -- ---- a memory that is new
 
 module _ (ms : List MemoryBytes) (memory o : ℕ) (bs : List ℕ) (x : MemoryBytes) (rows : AreRows (rows_of ms)) (new : is_among memory (numbers_of ms) ≡ false)
-    (number : x.memory ≡ memory) (may : MayHold (write_of memory o bs)) (bytes : windows_byte x.windows ≡ overlay o bs nothing) where
+    (number : x.memory ≡ memory) (may : MayHold (write_of memory o bs)) (bytes : stretches_byte x.stretches ≡ overlay o bs nothing) where
   absent : is_among memory (numbers (rows_of ms)) ≡ false
   absent = ap (is_among memory) (rows-numbers ms) ∙ new
 
@@ -130,47 +130,47 @@ no_runs f n below none = λ j i. each i j
       | inr high ↦ below i high
     ]
 
-pub first_fill : (ms : List MemoryBytes) (r : MemoryBytes) (a : ℕ) (bytes : List ℕ) → (length ms ≡ 0 → ⊥) → r ≡ get_or ms 0 r → IsFirst (windows_byte r.windows) a bytes → slice_get (fills_of ms) 0 ≡ Some (write_of r.memory a bytes)
+pub first_fill : (ms : List MemoryBytes) (r : MemoryBytes) (a : ℕ) (bytes : List ℕ) → (length ms ≡ 0 → ⊥) → r ≡ get_or ms 0 r → IsFirst (stretches_byte r.stretches) a bytes → slice_get (fills_of ms) 0 ≡ Some (write_of r.memory a bytes)
 first_fill [] r a bytes some is first = absurd (some refl)
 first_fill (m ∷ ms) r a bytes some is first =
-    let l = first_below (windows_byte r.windows) a bytes memory_limit first (windows_below r.windows) in
-    ap (λ y. slice_get (map (in_memory y.memory) (runs (windows_byte y.windows) 0 memory_limit) ++ fills_of ms) 0) (sym is)
-    ∙ ap (λ rs. slice_get (map (in_memory r.memory) rs ++ fills_of ms) 0) (runs_is_first (windows_byte r.windows) a bytes memory_limit (memory_limit - (a + length bytes)) first (omega arith))
+    let l = first_below (stretches_byte r.stretches) a bytes memory_limit first (stretches_below r.stretches) in
+    ap (λ y. slice_get (map (in_memory y.memory) (runs (stretches_byte y.stretches) 0 memory_limit) ++ fills_of ms) 0) (sym is)
+    ∙ ap (λ rs. slice_get (map (in_memory r.memory) rs ++ fills_of ms) 0) (runs_is_first (stretches_byte r.stretches) a bytes memory_limit (memory_limit - (a + length bytes)) first (omega arith))
 
-pub first_held : (ms : List MemoryBytes) (r : MemoryBytes) → (length ms ≡ 0 → ⊥) → r ≡ get_or ms 0 r → AreRows (rows_of ms) → windows_byte r.windows ≡ nothing → ⊥
+pub first_held : (ms : List MemoryBytes) (r : MemoryBytes) → (length ms ≡ 0 → ⊥) → r ≡ get_or ms 0 r → AreRows (rows_of ms) → stretches_byte r.stretches ≡ nothing → ⊥
 first_held [] r some is rows none = some refl
-first_held (m ∷ ms) r some is rows none = rows.0.some (ap (λ y. runs (windows_byte y.windows) 0 memory_limit) (sym is) ∙ ap (λ f. runs f 0 memory_limit) none ∙ runs_nothing memory_limit 0)
+first_held (m ∷ ms) r some is rows none = rows.0.some (ap (λ y. runs (stretches_byte y.stretches) 0 memory_limit) (sym is) ∙ ap (λ f. runs f 0 memory_limit) none ∙ runs_nothing memory_limit 0)
 
 -- ---- the first fill is gone
 
 module _ (ms : List MemoryBytes) (r x : MemoryBytes) (some : length ms ≡ 0 → ⊥) (is : r ≡ get_or ms 0 r) (rows : AreRows (rows_of ms)) (same : x.memory ≡ r.memory)
-    (dropped : IsDropped (windows_byte r.windows) (windows_byte x.windows)) where
+    (dropped : IsDropped (stretches_byte r.stretches) (stretches_byte x.stretches)) where
   pub dropped_fills : fills_of (set ms 0 x) ≡ drop 1 (fills_of ms)
   dropped_fills = by ms some is
     where
       by : (l : List MemoryBytes) → (length l ≡ 0 → ⊥) → r ≡ get_or l 0 r → fills_of (set l 0 x) ≡ drop 1 (fills_of l)
       by [] s e = absurd (s refl)
       by (m ∷ l) s e =
-          ap (λ k. map (in_memory k) (runs (windows_byte x.windows) 0 memory_limit) ++ fills_of l) same
+          ap (λ k. map (in_memory k) (runs (stretches_byte x.stretches) 0 memory_limit) ++ fills_of l) same
           ∙ sym (
-          ap (λ y. drop 1 (map (in_memory y.memory) (runs (windows_byte y.windows) 0 memory_limit) ++ fills_of l)) (sym e)
-          ∙ ap (λ rs. drop 1 (map (in_memory r.memory) rs ++ fills_of l)) (runs_dropped (windows_byte r.windows) (windows_byte x.windows) memory_limit dropped (windows_below r.windows)))
+          ap (λ y. drop 1 (map (in_memory y.memory) (runs (stretches_byte y.stretches) 0 memory_limit) ++ fills_of l)) (sym e)
+          ∙ ap (λ rs. drop 1 (map (in_memory r.memory) rs ++ fills_of l)) (runs_dropped (stretches_byte r.stretches) (stretches_byte x.stretches) memory_limit dropped (stretches_below r.stretches)))
 
-  pub dropped_rows : (windows_byte x.windows ≡ nothing → ⊥) → AreRows (rows_of (set ms 0 x))
+  pub dropped_rows : (stretches_byte x.stretches ≡ nothing → ⊥) → AreRows (rows_of (set ms 0 x))
   dropped_rows more = by ms some is rows
     where
       by : (l : List MemoryBytes) → (length l ≡ 0 → ⊥) → r ≡ get_or l 0 r → AreRows (rows_of l) → AreRows (rows_of (set l 0 x))
       by [] s e h = absurd (s refl)
       by (m ∷ l) s e h = (
         record {
-          below = windows_below x.windows;
-          some = λ none. more (no_runs (windows_byte x.windows) memory_limit (windows_below x.windows) none);
+          below = stretches_below x.stretches;
+          some = λ none. more (no_runs (stretches_byte x.stretches) memory_limit (stretches_below x.stretches) none);
         },
         ap (λ k. is_among k (numbers (rows_of l))) (same ∙ ap (λ y. y.memory) e) ∙ h.1,
         h.2,
       )
 
-  pub dropped_last : windows_byte x.windows ≡ nothing → fills_of (drop 1 (set ms 0 x)) ≡ drop 1 (fills_of ms)
+  pub dropped_last : stretches_byte x.stretches ≡ nothing → fills_of (drop 1 (set ms 0 x)) ≡ drop 1 (fills_of ms)
   dropped_last none = by ms some is ∙ dropped_fills
     where
       by : (l : List MemoryBytes) → (length l ≡ 0 → ⊥) → r ≡ get_or l 0 r → fills_of (drop 1 (set l 0 x)) ≡ fills_of (set l 0 x)
@@ -179,7 +179,7 @@ module _ (ms : List MemoryBytes) (r x : MemoryBytes) (some : length ms ≡ 0 →
 
 -- something was held, so the first fill went
 pub was_dropped : (ms : List MemoryBytes) (r : MemoryBytes) (g : ℕ → Option ℕ) → (length ms ≡ 0 → ⊥) → r ≡ get_or ms 0 r → AreRows (rows_of ms)
-    → IsDropped (windows_byte r.windows) g ⊎ ((windows_byte r.windows ≡ nothing) × (g ≡ nothing)) → IsDropped (windows_byte r.windows) g
+    → IsDropped (stretches_byte r.stretches) g ⊎ ((stretches_byte r.stretches ≡ nothing) × (g ≡ nothing)) → IsDropped (stretches_byte r.stretches) g
 was_dropped ms r g some is rows (inl d) = d
 was_dropped ms r g some is rows (inr n) = absurd (first_held ms r some is rows n.0)
 

@@ -1,10 +1,10 @@
 -- Memories that are found by their places.
-use Rattle.std.proofs.Common.{◌≡◌, ℕ, zero, suc, ◌+◌, ◌-◌, ◌<◌, ◌≤◌, Bool, false, true, refl, ap, sym, subst, ◌∙◌, List, [], ◌∷◌, ◌++◌, map, length, set, get_or, drop, ◌==◌, ◌⊎◌, Option, Some, None, arith, inl, inr}
+use Rattle.std.proofs.Common.{◌≡◌, ℕ, zero, suc, ◌+◌, ◌-◌, ◌<◌, ◌≤◌, false, refl, ap, sym, ◌∙◌, List, [], ◌∷◌, ◌++◌, length, set, get_or, drop, ◌==◌, ◌⊎◌, Some, None, arith, inl, inr}
 use Rattle.std.specs.Ordering.{nat_cmp}
 use Rattle.std.specs.FinMap as fin
-use Rattle.std.proofs.lemmas.List.{map-append, drop-map, length-map, length-append, drop-append-le, get_or_append_left, drop-set-add, get_or-drop, length-drop}
+use Rattle.std.proofs.lemmas.List.{drop-map, length-map, length-append, drop-append-le, get_or_append_left, drop-set-add, get_or-drop, length-drop}
 use Rattle.std.proofs.Math.Seq.{get_or-append_seam, drop-cons}
-use Rattle.std.proofs.lemmas.Bool.{cases_eq, ne_eqb, eq-eqb, or_parts, or_left, or_right, or_from}
+use Rattle.std.proofs.lemmas.Bool.{cases_eq, ne_eqb, or_parts}
 use Rattle.gfx_model.specs.Checks.{is_among}
 use Rattle.gfx_shadow.specs.declared.memory.MemoryBytes.{MemoryBytes}
 use Rattle.gfx_shadow.specs.Memories.{numbers_of}

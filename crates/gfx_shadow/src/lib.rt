@@ -1,11 +1,11 @@
 //! Writes to memory that are held back, and the fills that stand for them.
 #![tactic(auto)]
 
-mod cells;
 mod memories;
 mod memory;
 mod shadow;
-mod windows;
+mod stretch;
+mod stretches;
 
 ghost use Rattle.gfx_shadow.specs.Longest.{RunsAreLongest};
 ghost use Rattle.gfx_shadow.specs.Laws.{FillsGiveHeld, FillsServe, FillsGather, FillsByIds};

@@ -8,6 +8,7 @@ ghost use Rattle.gfx_shadow.specs.Places.{left_of, held_by, IsAt, AreIndexed, Is
 use super::Memories;
 use crate::memory::MemoryBytes;
 use crate::shadow::Held;
+use crate::stretches::Stretches;
 use gfx_table::Table;
 use gfx_types::WantMemory;
 use std::alloc::Global;
@@ -39,7 +40,7 @@ fn put_there(
     ensures err { OnErr result (held_by memories.new ≡ held_by memories.old) }
 {
     let row = &mut memories.rows[at];
-    row.put(offset, bytes)?;
+    row.stretches.put(offset, bytes)?;
     Ok(())
 }
 
@@ -58,13 +59,13 @@ fn put_new(
     ensures ok { OnOk result (held_by memories.new ≡ fills (held_by memories.old ++ write_of memory offset bytes.now ∷ [])) }
     ensures err { OnErr result (held_by memories.new ≡ held_by memories.old) }
 {
-    let mut row = MemoryBytes::new(alloc, memory);
-    row.put(offset, bytes)?;
+    let mut stretches = Stretches::new(alloc);
+    stretches.put(offset, bytes)?;
     if let Err(_) = memories.places.reserve(1) {
         return Err(WantMemory);
     }
     let at = memories.rows.len();
-    if let Err(_) = memories.rows.push(row) {
+    if let Err(_) = memories.rows.push(MemoryBytes { memory, stretches }) {
         return Err(WantMemory);
     }
     memories.places.set(memory, at);
@@ -127,7 +128,7 @@ impl Memories {
             return None;
         }
         let row = &self.rows[self.first];
-        match row.windows.first() {
+        match row.stretches.first() {
             Some(run) => Some(Held {
                 memory: row.memory,
                 offset: run.offset as u64,
@@ -148,8 +149,8 @@ impl Memories {
             return;
         }
         let row = &mut self.rows[self.first];
-        row.windows.drop_first();
-        if row.windows.is_bare() {
+        row.stretches.drop_first();
+        if row.stretches.is_bare() {
             let memory = row.memory;
             leave(self, memory);
         }
