@@ -2,6 +2,7 @@ pub mod Cuts
 pub mod Order
 pub mod Filling
 pub mod Renaming
+pub mod Keys
 pub mod NamePlaces
 pub mod Fitting
 pub mod Forms

@@ -3,26 +3,24 @@ use Rattle.std.proofs.Common.{◌≡◌, ℕ, zero, suc, ◌+◌, ◌<◌, ◌�
 use Rattle.std.specs.List.{list_any, position_from}
 use Rattle.std.proofs.Common.{get_or}
 use Rattle.std.specs.Str.{bytes_eq}
+use Rattle.std.specs.List.{list_all}
 use Rattle.std.specs.BTreeMap.{BTreeMap, is_at}
 use Rattle.std.specs.Map.{lookup}
-use Rattle.std.specs.Cmp.Lexicographic.{slice_cmp}
-use Rattle.std.specs.Ordering.{nat_cmp}
 use Rattle.std.proofs.lemmas.List.{length-map, map-append, take_more}
-use Rattle.std.specs.Map.{KeepsOthers, IsKeyTest, AreApart}
-use Rattle.std.specs.BTreeMap as tree
-use Rattle.std.specs.Ordering.{is_eq, eq_by_cmp}
-use Rattle.std.specs.declared.cmp.Ordering.{Ordering}
-use Rattle.std.specs.Cmp.{eq_by_cmp_equiv}
-use Rattle.std.specs.Cmp.Lexicographic.{bytes_decides, nat_list_cmp_total, nat_list_eq_equiv}
-use Rattle.std.proofs.lemmas.Map.Text.{is_eq-slice_cmp}
+use Rattle.std.specs.Option.{unwrap_or}
+use Rattle.std.specs.Cmp.Lexicographic.{bytes_decides}
 use Rattle.std.proofs.lemmas.Bool.Decides.{nat_tests}
-use Rattle.std.specs.Prelude.{Vec}
-use Rattle.std.proofs.Common.{Global, Bor}
+use Rattle.std.proofs.lemmas.Bool.{and_parts, and_from}
+use Rattle.std.proofs.Common.{Bor}
 use Rattle.gfx_model.specs.Checks.{same_list}
+use Rattle.gfx_script_model.specs.Names.{is_name}
 use Rattle.gfx_script_model.specs.Scripts.{Defined, number_of, may_use, repeats, define}
 use Rattle.gfx_text_grammar.proofs.Lists.{same_list-true}
+use Rattle.gfx_script.specs.declared.key.Key.{Key}
 use Rattle.gfx_script.specs.declared.names.Definition.{Definition}
-use Rattle.gfx_script.specs.Numbered.{definition_of, place_of, nothing_defined, allowed_at, ArePlaces, is_taken, clashes}
+use Rattle.gfx_script.specs.Keys.{key_of, key_cmp}
+use Rattle.gfx_script.proofs.Keys.{keys_tie}
+use Rattle.gfx_script.specs.Numbered.{definition_of, place_of, nothing_defined, allowed_at, ArePlaces, PutsPlace, is_taken, clashes}
 
 -- the first of two that is there
 abbrev pub first_of : Option ℕ → Option ℕ → Option ℕ
@@ -84,16 +82,33 @@ same_list-same (x ∷ xs) = ap (λ b. b && same_list xs xs) (let e : nat_eq x x 
 -- ---- places
 
 -- no places without names
-pub no_places : (places : BTreeMap (Vec ℕ Global) ℕ) → places.entries ≡ [] → ArePlaces [] places
-no_places places e allowed text = ap (λ es. allowed_at allowed [] (lookup (is_at (λ k. slice_cmp nat_cmp text k.items)) es)) (sym e)
+pub no_places : (places : BTreeMap Key ℕ) → places.entries ≡ [] → ArePlaces [] places
+no_places places e = record { named = refl; placed = λ allowed text h. ap (λ es. allowed_at allowed [] (lookup (is_at (key_cmp (key_of text))) es)) (sym e) }
 
 abbrev all : Defined → Bool
 all d = true
 
+abbrev has_name : Defined → Bool
+has_name d = is_name d.name
+
+-- what is defined is a name
+name-defined : (allowed : Defined → Bool) (i : ℕ) (names : List Defined) (text : List ℕ) (n : ℕ) → list_all has_name names ≡ true
+    → position_from (λ d. same_list d.name text && allowed d) i names ≡ Some n → is_name text ≡ true
+name-defined allowed i [] text n named h = absurd cc
+name-defined allowed i (d ∷ names) text n named h =
+    let p = and_parts (has_name d) (list_all has_name names) named in by (same_list d.name text) refl (name-defined allowed (i + 1) names text n p.1) h p.0
+  where
+    others : Option ℕ
+    others = position_from (λ d. same_list d.name text && allowed d) (i + 1) names
+
+    by : (b : Bool) → same_list d.name text ≡ b → (others ≡ Some n → is_name text ≡ true) → cond (b && allowed d) (Some i) others ≡ Some n → has_name d ≡ true → is_name text ≡ true
+    by true e more k name = ap is_name (sym (same_list-true d.name text e)) ∙ name
+    by false e more k name = more k
+
 -- the place of a name is one of the names'
-pub place-within : (names : List Defined) (places : BTreeMap (Vec ℕ Global) ℕ) (text : List ℕ) (i : ℕ) → ArePlaces names places → place_of places text ≡ Some i → i < length names
-place-within names places text i are h =
-    let w = number-within all names text (i + 1) (are all text ∙ ap (allowed_at all names) h) in omega (arith, w.1)
+pub place-within : (names : List Defined) (places : BTreeMap Key ℕ) (text : List ℕ) (i : ℕ) → ArePlaces names places → is_name text ≡ true → place_of places text ≡ Some i → i < length names
+place-within names places text i are name h =
+    let w = number-within all names text (i + 1) (are.placed all text name ∙ ap (allowed_at all names) h) in omega (arith, w.1)
 
 -- the definitions in front are as they were
 front_same : (names : List Defined) (d : Defined) (i : ℕ) → i < length names → get_or (names ++ d ∷ []) i nothing_defined ≡ get_or names i nothing_defined
@@ -110,32 +125,40 @@ allowed-front : (allowed : Defined → Bool) (names : List Defined) (d : Defined
 allowed-front allowed names d None h = refl
 allowed-front allowed names d (Some i) h = ap (λ z. cond (allowed z) (Some (i + 1)) None) (sym (front_same names d i (h i refl)))
 
+named-push : (names : List Defined) (d : Defined) → list_all has_name names ≡ true → has_name d ≡ true → list_all has_name (names ++ d ∷ []) ≡ true
+named-push [] d h k = and_from _ _ k refl
+named-push (n ∷ names) d h k = let p = and_parts (has_name n) (list_all has_name names) h in and_from _ _ p.0 (named-push names d p.1 k)
+
 -- one more name, which was not there
-pub places-push : (names : List Defined) (d : Defined) (old new : BTreeMap (Vec ℕ Global) ℕ) → ArePlaces names old → place_of old d.name ≡ None
-    → ((text : List ℕ) → place_of new text ≡ cond (bytes_eq d.name text) (Some (length names)) (place_of old text))
+pub places-push : (names : List Defined) (d : Defined) (old new : BTreeMap Key ℕ) → ArePlaces names old → is_name d.name ≡ true → place_of old d.name ≡ None
+    → ((text : List ℕ) → is_name text ≡ true → place_of new text ≡ cond (bytes_eq d.name text) (Some (length names)) (place_of old text))
     → ArePlaces (names ++ d ∷ []) new
-places-push names d old new are none puts allowed text =
-    number-push allowed names d text ∙ ap (λ o. first_of o (cond (same_list d.name text && allowed d) (Some (length names + 1)) None)) (are allowed text)
-    ∙ by (bytes_eq d.name text) refl ∙ ap (allowed_at allowed (names ++ d ∷ [])) (sym (puts text))
+places-push names d old new are name none puts = record { named = named-push names d are.named name; placed = placed }
   where
     first_none : (o : Option ℕ) → first_of o None ≡ o
     first_none None = refl
     first_none (Some n) = refl
 
-    by : (b : Bool) → bytes_eq d.name text ≡ b
+    by : (allowed : Defined → Bool) (text : List ℕ) → is_name text ≡ true → (b : Bool) → bytes_eq d.name text ≡ b
         → first_of (allowed_at allowed names (place_of old text)) (cond (same_list d.name text && allowed d) (Some (length names + 1)) None)
         ≡ allowed_at allowed (names ++ d ∷ []) (cond b (Some (length names)) (place_of old text))
-    by true e =
+    by allowed text h true e =
         let same : same_list d.name text ≡ true = same-bytes d.name text ∙ e in
         let not_there : place_of old text ≡ None = ap (place_of old) (sym (same_list-true d.name text same)) ∙ none in
         ap (λ o. first_of (allowed_at allowed names o) (cond (same_list d.name text && allowed d) (Some (length names + 1)) None)) not_there
         ∙ ap (λ c. cond (c && allowed d) (Some (length names + 1)) None) same
         ∙ ap (λ z. cond (allowed z) (Some (length names + 1)) None) (sym (last_is names d))
-    by false e =
+    by allowed text h false e =
         let other : same_list d.name text ≡ false = same-bytes d.name text ∙ e in
         ap (λ c. first_of (allowed_at allowed names (place_of old text)) (cond (c && allowed d) (Some (length names + 1)) None)) other
         ∙ first_none (allowed_at allowed names (place_of old text))
-        ∙ allowed-front allowed names d (place_of old text) (λ i h. place-within names old text i are h)
+        ∙ allowed-front allowed names d (place_of old text) (λ i k. place-within names old text i are h k)
+
+    placed : (allowed : Defined → Bool) (text : List ℕ) → is_name text ≡ true → number_of allowed (names ++ d ∷ []) text ≡ allowed_at allowed (names ++ d ∷ []) (place_of new text)
+    placed allowed text h =
+        number-push allowed names d text
+        ∙ ap (λ o. first_of o (cond (same_list d.name text && allowed d) (Some (length names + 1)) None)) (are.placed allowed text h)
+        ∙ by allowed text h (bytes_eq d.name text) refl ∙ ap (allowed_at allowed (names ++ d ∷ [])) (sym (puts text h))
 
 -- the definition at a place
 pub definition-at : (items : List Definition) (i : ℕ) (d : Definition) → i < length items → d ≡ get_or items i d → get_or (map definition_of items) i nothing_defined ≡ definition_of d
@@ -143,29 +166,20 @@ definition-at [] i d l e = absurd (omega arith)
 definition-at (x ∷ xs) zero d l e = ap definition_of (sym e)
 definition-at (x ∷ xs) (suc i) d l e = definition-at xs i d (omega arith) e
 
--- the number of a text by the definition at its place
-pub number-at : (allowed : Defined → Bool) (names : List Defined) (places : BTreeMap (Vec ℕ Global) ℕ) (text : List ℕ) (i : ℕ) (d : Defined) → ArePlaces names places
-    → place_of places text ≡ Some i → get_or names i nothing_defined ≡ d → number_of allowed names text ≡ cond (allowed d) (Some (i + 1)) None
-number-at allowed names places text i d are at is =
-    are allowed text ∙ ap (allowed_at allowed names) at ∙ ap (λ (z : Defined). cond (allowed z) (Some (i + 1)) None) is
-
--- a name without a place has no number
-pub number-none : (allowed : Defined → Bool) (names : List Defined) (places : BTreeMap (Vec ℕ Global) ℕ) (text : List ℕ) → ArePlaces names places
-    → place_of places text ≡ None → number_of allowed names text ≡ None
-number-none allowed names places text are at = are allowed text ∙ ap (allowed_at allowed names) at
-
 -- a name is taken where it has a place
-pub taken-place : (names : List Defined) (places : BTreeMap (Vec ℕ Global) ℕ) (text : List ℕ) → ArePlaces names places → is_taken names text ≡ is_some (place_of places text)
-taken-place names places text are = ap is_some (are all text) ∙ by (place_of places text)
+pub taken-place : (names : List Defined) (places : BTreeMap Key ℕ) (text : List ℕ) → ArePlaces names places → is_name text ≡ true → is_taken names text ≡ is_some (place_of places text)
+taken-place names places text are name = ap is_some (are.placed all text name) ∙ by (place_of places text)
   where
     by : (o : Option ℕ) → is_some (allowed_at all names o) ≡ is_some o
     by None = refl
     by (Some i) = refl
 
 -- a name that may be used has its number among all names
-pub only-number : (allowed : Defined → Bool) (names : List Defined) (places : BTreeMap (Vec ℕ Global) ℕ) (text : List ℕ) (n : ℕ) → ArePlaces names places
+pub only-number : (allowed : Defined → Bool) (names : List Defined) (places : BTreeMap Key ℕ) (text : List ℕ) (n : ℕ) → ArePlaces names places
     → number_of allowed names text ≡ Some n → number_of all names text ≡ Some n
-only-number allowed names places text n are h = are all text ∙ by (place_of places text) (sym (are allowed text) ∙ h)
+only-number allowed names places text n are h =
+    let name = name-defined allowed 1 names text n are.named h in
+    are.placed all text name ∙ by (place_of places text) (sym (are.placed allowed text name) ∙ h)
   where
     by : (o : Option ℕ) → allowed_at allowed names o ≡ Some n → allowed_at all names o ≡ Some n
     by None e = absurd cc
@@ -175,33 +189,10 @@ only-number allowed names places text n are h = are all text ∙ by (place_of pl
         at true k = k
         at false k = absurd cc
 
--- ---- a map from texts after a change of one
-
-abbrev VecMap : Type 0
-VecMap = BTreeMap (Vec ℕ Global) ℕ
-
-abbrev vec_cmp : Vec ℕ Global → Vec ℕ Global → Ordering
-vec_cmp x y = slice_cmp nat_cmp x.items y.items
-
-apart_in_order : (bs cs ks : List ℕ) → bytes_eq bs cs ≡ false → is_eq (slice_cmp nat_cmp bs ks) ≡ true → is_eq (slice_cmp nat_cmp cs ks) ≡ false
-apart_in_order bs cs ks n y =
-    is_eq-slice_cmp cs ks ∙ nat_list_eq_equiv.symm cs ks ∙ sym (nat_list_eq_equiv.congr bs ks cs (sym (is_eq-slice_cmp bs ks) ∙ y)) ∙ n
-
-others : (old new : List (Vec ℕ Global × ℕ)) (test : Vec ℕ Global → Bool) → KeepsOthers (eq_by_cmp vec_cmp) test old new → (other : Vec ℕ Global → Bool)
-    → IsKeyTest (eq_by_cmp vec_cmp) other → AreApart test other → lookup other new ≡ lookup other old
-unfolding KeepsOthers
-others old new test h = h
-
--- what a map has at each text after a change at one
-pub place-updates : (m n : VecMap) (bs : List ℕ) (w : Option ℕ) → tree.UpdatesBy vec_cmp (λ k. slice_cmp nat_cmp bs k.items) m n w
-    → (cs : List ℕ) → place_of n cs ≡ cond (bytes_eq bs cs) w (place_of m cs)
-place-updates m n bs w h cs = by (bytes_eq bs cs) refl
-  where
-    by : (b : Bool) → bytes_eq bs cs ≡ b → place_of n cs ≡ cond b w (place_of m cs)
-    by true e = ap (place_of n) (sym ((bytes_decides bs cs).0 e)) ∙ h.1
-    by false e =
-        others m.entries n.entries _ h.3 (λ k. is_eq (slice_cmp nat_cmp cs k.items)) (λ x y. (eq_by_cmp_equiv nat_list_cmp_total).congr cs x.items y.items)
-        (λ k. apart_in_order bs cs k.items e)
+-- what a map has at each name after a change at one
+place-puts : (old new : BTreeMap Key ℕ) (name : List ℕ) (i : ℕ) → is_name name ≡ true → PutsPlace (key_of name) i old new
+    → (text : List ℕ) → is_name text ≡ true → place_of new text ≡ cond (bytes_eq name text) (Some i) (place_of old text)
+place-puts old new name i is h text k = h (key_of text) ∙ ap (λ b. cond b (Some i) (place_of old text)) (keys_tie name text is k)
 
 -- ---- the names of a line
 
@@ -345,33 +336,66 @@ module _ (phase thread : ℕ) where
 
 -- ---- for the methods of `Names`
 
--- the number of a name at its place
-pub number-found : (phase thread : ℕ) (items : List Definition) (places : BTreeMap (Vec ℕ Global) ℕ) (names : List Defined) (text : List ℕ) (i : ℕ) (d : Definition) (b : Bool)
-    → map definition_of items ≡ names → ArePlaces (map definition_of items) places → place_of places text ≡ Some i → d ≡ get_or items i d → b ≡ may_use phase thread (definition_of d)
-    → number_of (may_use phase thread) names text ≡ cond b (Some (i + 1)) None
-number-found phase thread items places names text i d b view are at is within =
-    let few : i < length items = omega (arith, place-within (map definition_of items) places text i are at, length-map items definition_of) in
-    ap (λ (z : List Defined). number_of (may_use phase thread) z text) (sym view)
-    ∙ number-at (may_use phase thread) (map definition_of items) places text i (definition_of d) are at (definition-at items i d few is)
-    ∙ ap (λ c. cond c (Some (i + 1)) None) (sym within)
+module _ (items : List Definition) (places : BTreeMap Key ℕ) (text : List ℕ) (are : ArePlaces (map definition_of items) places) (name : is_name text ≡ true) where
+  -- a place is one of the definitions'
+  pub place-few : (i : ℕ) → place_of places text ≡ Some i → i < length items
+  place-few i at = omega (arith, place-within (map definition_of items) places text i are name at, length-map items definition_of)
 
--- a place is one of the definitions'
-pub place-few : (items : List Definition) (places : BTreeMap (Vec ℕ Global) ℕ) (text : List ℕ) (i : ℕ) → ArePlaces (map definition_of items) places → place_of places text ≡ Some i → i < length items
-place-few items places text i are at = omega (arith, place-within (map definition_of items) places text i are at, length-map items definition_of)
+  -- the number of a name by the definition at its place
+  pub number-found : (phase thread : ℕ) (names : List Defined) (i : ℕ) (d : Definition) (b : Bool) → map definition_of items ≡ names
+      → place_of places text ≡ Some i → d ≡ get_or items i d → b ≡ may_use phase thread (definition_of d) → number_of (may_use phase thread) names text ≡ cond b (Some (i + 1)) None
+  number-found phase thread names i d b view at is within =
+      ap (λ (z : List Defined). number_of (may_use phase thread) z text) (sym view)
+      ∙ are.placed (may_use phase thread) text name ∙ ap (allowed_at (may_use phase thread) (map definition_of items)) at
+      ∙ ap (λ (z : Defined). cond (may_use phase thread z) (Some (i + 1)) None) (definition-at items i d (place-few i at) is)
+      ∙ ap (λ c. cond c (Some (i + 1)) None) (sym within)
 
--- one more definition, which was not there
-pub places-defined : (items : List Definition) (d : Definition) (old new : BTreeMap (Vec ℕ Global) ℕ) (key : List ℕ) (place : ℕ) → ArePlaces (map definition_of items) old
-    → is_some (place_of old d.name.now) ≡ false → place ≡ length items → key ≡ d.name.now
-    → ((cs : List ℕ) → place_of new cs ≡ cond (bytes_eq key cs) (Some place) (place_of old cs)) → ArePlaces (map definition_of (items ++ d ∷ [])) new
-places-defined items d old new key place are none at same puts =
-    subst (λ (z : List Defined). ArePlaces z new) (sym (map-append definition_of items (d ∷ [])))
-    (places-push (map definition_of items) (definition_of d) old new are (absent (place_of old d.name.now) none)
-    (λ cs. puts cs ∙ ap (λ (z : List ℕ). cond (bytes_eq z cs) (Some place) (place_of old cs)) same
-    ∙ ap (λ n. cond (bytes_eq d.name.now cs) (Some n) (place_of old cs)) (at ∙ sym (length-map items definition_of))))
-  where
-    absent : (o : Option ℕ) → is_some o ≡ false → o ≡ None
-    absent None h = refl
-    absent (Some n) h = absurd cc
+  -- a name without a place has no number
+  pub number-none : (phase thread : ℕ) (names : List Defined) → map definition_of items ≡ names → place_of places text ≡ None → number_of (may_use phase thread) names text ≡ None
+  number-none phase thread names view at =
+      ap (λ (z : List Defined). number_of (may_use phase thread) z text) (sym view)
+      ∙ are.placed (may_use phase thread) text name ∙ ap (allowed_at (may_use phase thread) (map definition_of items)) at
+
+  -- the place behind all others is that of no name
+  pub place-new : (found : ℕ) → found ≡ unwrap_or (place_of places text) (length items) → found ≡ length items → place_of places text ≡ None
+  place-new found is new = by (place_of places text) refl is
+    where
+      by : (o : Option ℕ) → place_of places text ≡ o → found ≡ unwrap_or o (length items) → o ≡ None
+      by None at e = refl
+      by (Some i) at e = absurd (omega (arith, place-few i at, e, new))
+
+  -- each other place is that of the name
+  pub place-old : (found : ℕ) → found ≡ unwrap_or (place_of places text) (length items) → (found ≡ length items → ⊥) → place_of places text ≡ Some found
+  place-old found is other = by (place_of places text) is
+    where
+      by : (o : Option ℕ) → found ≡ unwrap_or o (length items) → o ≡ Some found
+      by None e = absurd (other e)
+      by (Some i) e = ap Some (sym e)
+
+  -- the name is as new as its place
+  pub taken-is : (names : List Defined) (o : Option ℕ) → map definition_of items ≡ names → place_of places text ≡ o → is_taken names text ≡ is_some o
+  taken-is names o view at = ap (λ (z : List Defined). is_taken z text) (sym view) ∙ taken-place (map definition_of items) places text are name ∙ ap is_some at
+
+  -- a name that has a place keeps it
+  pub places-stay : (new : BTreeMap Key ℕ) (i : ℕ) → place_of places text ≡ Some i → PutsPlace (key_of text) i places new → ArePlaces (map definition_of items) new
+  places-stay new i at h = record {
+    named = are.named;
+    placed = λ allowed other k. are.placed allowed other k ∙ ap (allowed_at allowed (map definition_of items)) (by other (bytes_eq text other) refl ∙ sym (place-puts places new text i name h other k));
+  }
+    where
+      by : (other : List ℕ) (b : Bool) → bytes_eq text other ≡ b → place_of places other ≡ cond b (Some i) (place_of places other)
+      by other true e = ap (place_of places) (sym ((bytes_decides text other).0 e)) ∙ at
+      by other false e = refl
+
+  -- a name that had none has the place behind all others
+  pub places-defined : (new : BTreeMap Key ℕ) (d : Definition) → d.name.now ≡ text → place_of places text ≡ None → PutsPlace (key_of text) (length items) places new
+      → ArePlaces (map definition_of (items ++ d ∷ [])) new
+  places-defined new d is none h =
+      subst (λ (z : List Defined). ArePlaces z new) (sym (map-append definition_of items (d ∷ [])))
+      (places-push (map definition_of items) (definition_of d) places new are (ap is_name is ∙ name) (ap (place_of places) is ∙ none)
+      (λ other k. place-puts places new text (length items) name h other k
+      ∙ ap (λ (z : List ℕ). cond (bytes_eq z other) (Some (length items)) (place_of places other)) (sym is)
+      ∙ ap (λ n. cond (bytes_eq d.name.now other) (Some n) (place_of places other)) (sym (length-map items definition_of))))
 
 -- the text of a word
 pub text-at : (words : List (Bor (List ℕ))) (i : ℕ) (d : Bor (List ℕ)) → i < length words → get_or (map (λ t. t.now) words) i [] ≡ (get_or words i d).now

@@ -5,6 +5,7 @@ use Rattle.std.specs.Option.{unwrap_or}
 use Rattle.std.proofs.lemmas.List.{length-map}
 use Rattle.std.specs.Result.{IsErrAnd}
 use Rattle.std.proofs.lemmas.Result.{err_from_is_err_and}
+use Rattle.std.proofs.lemmas.Bool.{and_parts, and_from}
 use Rattle.std.proofs.lemmas.Bool.Decides.{nat_tests}
 use Rattle.gfx_model.specs.Events.{Event}
 use Rattle.gfx_model.specs.Events.Event.{FillMemory}
@@ -12,7 +13,7 @@ use Rattle.gfx_model.specs.Fields.{named_fields}
 use Rattle.gfx_model.specs.Spelling.{HasSpelling, type_of}
 use Rattle.gfx_script_model.specs.FieldText.{IdFits}
 use Rattle.gfx_script_model.specs.Ids.{uses_of, defines_of, map_ids}
-use Rattle.gfx_script_model.specs.Names.{is_code, name_of, named_ids}
+use Rattle.gfx_script_model.specs.Names.{is_name, is_code, name_of, named_ids}
 use Rattle.gfx_script_model.specs.Scripts.{Defined, number_of, may_use, is_known, without_0, renumber, define, name_unknown, name_taken}
 use Rattle.gfx_script_model.specs.Statements.{may_be_written}
 use Rattle.gfx_script.specs.Puts.{HasIds, AreWide}
@@ -103,6 +104,14 @@ module _ (at : Place) (names : List Defined) (texts : List (List ℕ)) (seen e :
   made_codes : AllByRecursion (IdFits named_ids) (defines_of at.minor e)
   unfolding defines_of
   made_codes = all_made_fit (named_fields at.minor e) s.fits
+
+  -- what it defines are names
+  pub texts_named : list_all is_name texts ≡ true
+  texts_named = ap (list_all is_name) s.defined ∙ by (defines_of at.minor e) made_codes
+    where
+      by : (ks : List ℕ) → AllByRecursion (IdFits named_ids) ks → list_all is_name (map name_of ks) ≡ true
+      by [] fits = refl
+      by (k ∷ ks) fits = and_from _ _ (and_parts _ _ fits.0).0 (by ks fits.1)
 
   -- the event with the numbers of the names then
   pub numbered_is : (after : List Defined) (numbers : List ℕ) (out : Event) → FindsAll at.phase at.thread names after → list_any is_unknown (uses_of 2 seen) ≡ false

@@ -1,4 +1,5 @@
 pub mod Kinds
+pub mod Keys
 pub mod Cuts
 pub mod Early
 pub mod Plain

@@ -5,6 +5,7 @@ mod adding;
 mod early;
 mod fault;
 mod kept;
+mod key;
 mod kind;
 mod line;
 mod line_fault;

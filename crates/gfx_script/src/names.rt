@@ -1,8 +1,12 @@
 //! The names that a script defines.
-ghost use Rattle.std.specs.Prelude.{◌≡◌, ◌<◌, ◌≤◌, ◌^◌, ℕ, List, [], true, length, Some, None, IfOk, IfSome};
+ghost use Rattle.std.specs.Prelude.{◌≡◌, ◌<◌, ◌^◌, ℕ, List, [], true, length, Some, None, IfOk, OnErr, IsTrue, unwrap_or};
+ghost use Rattle.gfx_script_model.specs.Names.{is_name};
 ghost use Rattle.gfx_script_model.specs.Scripts.{number_of, may_use};
-ghost use Rattle.gfx_script.specs.Numbered.{Defines};
+ghost use Rattle.std.specs.BTreeMap.{get, IsUnchanged};
+ghost use Rattle.gfx_script.specs.Keys.{key_cmp};
+ghost use Rattle.gfx_script.specs.Numbered.{Defines, PutsPlace};
 
+use crate::key::Key;
 use std::alloc::{AllocError, Global};
 use std::collections::BTreeMap;
 use std::marker::Model;
@@ -30,7 +34,7 @@ impl<'t> Definition<'t> {
 #[derive(Drop)]
 pub(crate) struct Names<'t> {
     defined: Vec<Definition<'t>>,
-    places: BTreeMap<Vec<u8>, usize>,
+    places: BTreeMap<Key, usize>,
 }
 
 impl<'t> Model for Names<'t> {
@@ -66,11 +70,10 @@ impl<'t> Names<'t> {
 
     /// The number of a name, from 1 on, where a line of this thread in this phase may use it.
     pub(crate) fn number(&self, name: &[u8], phase: usize, thread: u32) -> Option<u64>
-        ensures found { result ≡ number_of (may_use phase thread) self.now name.now }
-        ensures only { IfSome result (λ n. number_of (λ d. true) self.now name.now ≡ Some n) }
-        ensures within { IfSome result (λ n. n ≤ length self.now) }
+        requires { IsTrue (is_name name.now) }
+        ensures { result ≡ number_of (may_use phase thread) self.now name.now }
     {
-        let place = *self.places.get(name)?;
+        let place = *self.places.get(&Key::of(name))?;
         let definition = self.defined[place];
         if definition.is_within(phase, thread) {
             Some(place as u64 + 1)
@@ -83,29 +86,49 @@ impl<'t> Names<'t> {
     /// of memory nothing is defined.
     pub(crate) fn define(
         &mut self,
-        alloc: Global,
         name: &'t [u8],
         phase: usize,
         thread: u32,
     ) -> Result<Option<u64>, AllocError>
-        ensures { IfOk result (λ number. Defines phase thread self.old name.now number self.new) }
+        requires { IsTrue (is_name name.now) }
+        ensures defines { IfOk result (λ number. Defines phase thread self.old name.now number self.new) }
+        ensures err { OnErr result (self.new ≡ self.old) }
     {
-        if self.places.contains_key(name) {
-            return Ok(None);
-        }
-        let key = Vec::from_slice(alloc, name)?;
         let place = self.defined.len();
         self.defined.push(Definition {
             name,
             phase,
             thread,
         })?;
-        match self.places.insert(key, place) {
-            Ok(_) => Ok(Some(place as u64 + 1)),
-            Err(_) => {
+        match place_or(&mut self.places, Key::of(name), place) {
+            Ok(found) => {
+                if found == place {
+                    return Ok(Some(place as u64 + 1));
+                }
                 self.defined.pop();
-                Err(AllocError)
+                Ok(None)
+            }
+            Err(fault) => {
+                self.defined.pop();
+                Err(fault)
             }
         }
+    }
+}
+
+// The place of a key, which is this one where it had none.
+fn place_or(places: &mut BTreeMap<Key, usize>, key: Key, place: usize) -> Result<usize, AllocError>
+    ensures found { IfOk result (λ found. found ≡ unwrap_or (get key_cmp places.old key) place) }
+    ensures puts { IfOk result (λ found. PutsPlace key found places.old places.new) }
+    ensures err { OnErr result (IsUnchanged places.old places.new) }
+{
+    match places.insert(key, place) {
+        Ok(None) => Ok(place),
+        // A key that was there keeps its place.
+        Ok(Some(found)) => match places.insert(key, found) {
+            Ok(_) => Ok(found),
+            Err(_) => unreachable!(),
+        },
+        Err(_) => Err(AllocError),
     }
 }

@@ -1,5 +1,5 @@
 //! Words of a line, and the names that it defines.
-ghost use Rattle.std.specs.Prelude.{◌≡◌, ◌==◌, map, IfOk};
+ghost use Rattle.std.specs.Prelude.{◌≡◌, ◌==◌, map, IfOk, IsTrue};
 ghost use Rattle.std.specs.List.{list_all, slice_split};
 ghost use Rattle.gfx_model.specs.Checks.{same_list};
 ghost use Rattle.gfx_script_model.specs.Names as model;
@@ -67,11 +67,12 @@ pub(crate) fn define_all<'t>(
     phase: usize,
     thread: u32,
 ) -> Result<Ids, LineFault>
+    requires { IsTrue (list_all model.is_name (map (λ t. t.now) words.now)) }
     ensures { DefinesAll phase thread names.old (map (λ t. t.now) words.now) result names.new }
 {
     let mut numbers = Vec::new(alloc);
     'words: for word in words {
-        match names.define(alloc, word, phase, thread)? {
+        match names.define(word, phase, thread)? {
             Some(number) => numbers.push(number)?,
             None => return Err(LineFault::Refused(ScriptKind::NameTaken)),
         }

@@ -3,7 +3,7 @@ use Rattle.std.specs.List.{list_any}
 use Rattle.gfx_model.specs.Events.{event_of}
 use Rattle.gfx_script.specs.Puts.{AreWide}
 use Rattle.gfx_script.specs.Resolved.{is_unknown}
-use Rattle.gfx_script.proofs.Numbered.{seen_written, unknown_fault, refused_names, numbered_line, as_many, made_spelled, finds, alike_written}
+use Rattle.gfx_script.proofs.Numbered.{seen_written, texts_named, unknown_fault, refused_names, numbered_line, as_many, made_spelled, finds, alike_written}
 use Rattle.gfx_script.proofs.numbering.number_line.Goals as goal
 
 pub uses-requires : goal.uses-requires
@@ -15,6 +15,10 @@ returns-then-has_unknown c = λ e s.
     unknown_fault c.args.at c.args.names.now (map (λ t. t.now) c.args.words.now) (event_of c.args.effect.now) e s (c.args.names.now ++ [])
     (finds c.args.at.phase c.args.at.thread c.args.names.now [] c.are_numbered.ensures.once c.are_numbered.ensures.few)
     (ap (list_any is_unknown) (sym c.in_ok-uses.ensures) ∙ sym c.has_unknown.ensures ∙ c.if-has_unknown.true)
+
+pub define_all-requires : goal.define_all-requires
+define_all-requires c =
+    texts_named c.args.at c.args.names.now (map (λ t. t.now) c.args.words.now) (event_of c.args.effect.now) c.requires.stated.0 c.requires.stated.1
 
 pub returns-in_err-defines : goal.returns-in_err-defines
 returns-in_err-defines c = λ e s.
