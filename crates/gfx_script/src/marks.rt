@@ -15,10 +15,6 @@ pub(crate) struct Names(pub u64);
 #[derive(Clone, Copy, Debug)]
 pub(crate) struct Makes(pub u64);
 
-/// A value that is no id.
-#[derive(Clone, Copy, Debug)]
-pub(crate) struct Other<T>(pub T);
-
 /// A list of ids that a call names.
 #[derive(Clone, Copy, Debug)]
 pub(crate) struct NamesEach<'c>(pub &'c Ids);
@@ -174,28 +170,6 @@ impl PutIds for Makes {
             unreachable!()
         };
         Ok((*id, Supply { named, made }))
-    }
-
-    fn collect(&self, _: &mut Vec<u64>) -> Result<(), AllocError> {
-        Ok(())
-    }
-}
-
-impl<T: Copy + Drop> PutIds for Other<T> {
-    type Out = T;
-
-    ghost named = { λ _. [] };
-
-    ghost made = { λ _. [] };
-
-    ghost out_named = { λ _. [] };
-
-    ghost out_made = { λ _. [] };
-
-    ghost alike = { λ after before. after ≡ before.0 };
-
-    fn put<'i>(&self, _: Global, ids: Supply<'i>) -> Result<(T, Supply<'i>), AllocError> {
-        Ok((self.0, ids))
     }
 
     fn collect(&self, _: &mut Vec<u64>) -> Result<(), AllocError> {

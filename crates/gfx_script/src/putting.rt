@@ -5,33 +5,39 @@ ghost use Rattle.gfx_model.specs.Spelling.{id_of};
 ghost use Rattle.gfx_script_model.specs.Ids.{uses_of, defines_of};
 ghost use Rattle.gfx_script.specs.Puts.{HasIds, is_between};
 
-use crate::marks::{End, Makes, MakesEach, Names, NamesEach, Other, PutIds, put_all};
+use crate::marks::{End, Makes, MakesEach, Names, NamesEach, PutIds, put_all};
 use gfx_params::call_id;
 use gfx_types::{Call, calls};
 use std::alloc::{AllocError, Global};
 
-/// Fields that a call lends, by their marks, as pairs of a field and the fields behind it.
+/// Those fields that a call lends which have ids or records, by their marks, as pairs of a field and the fields behind it.
 macro_rules! marked {
-    ($field:ident: names $($behind:tt)*) => { (Names(*$field), marked_behind!($($behind)*)) };
-    ($field:ident: maybe $($behind:tt)*) => { (Names(*$field), marked_behind!($($behind)*)) };
-    ($field:ident: makes $($behind:tt)*) => { (Makes(*$field), marked_behind!($($behind)*)) };
-    ($field:ident: names_each $($behind:tt)*) => { (NamesEach($field), marked_behind!($($behind)*)) };
-    ($field:ident: makes_each $($behind:tt)*) => { (MakesEach($field), marked_behind!($($behind)*)) };
-    ($field:ident: records $($behind:tt)*) => { ($field, marked_behind!($($behind)*)) };
-    ($field:ident: submitted $($behind:tt)*) => { ($field, marked_behind!($($behind)*)) };
-    ($field:ident: $mark:ident $($behind:tt)*) => { (Other(*$field), marked_behind!($($behind)*)) };
-}
-
-/// The fields behind a comma, or the end.
-macro_rules! marked_behind {
     () => { End };
-    (, $($fields:tt)*) => { marked!($($fields)*) };
+    ($field:ident: names $(, $($behind:tt)*)?) => { (Names(*$field), marked!($($($behind)*)?)) };
+    ($field:ident: maybe $(, $($behind:tt)*)?) => { (Names(*$field), marked!($($($behind)*)?)) };
+    ($field:ident: makes $(, $($behind:tt)*)?) => { (Makes(*$field), marked!($($($behind)*)?)) };
+    ($field:ident: names_each $(, $($behind:tt)*)?) => { (NamesEach($field), marked!($($($behind)*)?)) };
+    ($field:ident: makes_each $(, $($behind:tt)*)?) => { (MakesEach($field), marked!($($($behind)*)?)) };
+    ($field:ident: records $(, $($behind:tt)*)?) => { ($field, marked!($($($behind)*)?)) };
+    ($field:ident: submitted $(, $($behind:tt)*)?) => { ($field, marked!($($($behind)*)?)) };
+    ($field:ident: $mark:ident $(, $($behind:tt)*)?) => { marked!($($($behind)*)?) };
 }
 
-/// The fields of a call of one's own, as a pattern.
+/// The same fields of a call of one's own, as a pattern.
 macro_rules! owned {
-    ($field:ident) => { ($field, _) };
-    ($field:ident, $($behind:ident),+) => { ($field, owned!($($behind),+)) };
+    () => { _ };
+    ($field:ident: wide $(, $($behind:tt)*)?) => { owned!($($($behind)*)?) };
+    ($field:ident: short $(, $($behind:tt)*)?) => { owned!($($($behind)*)?) };
+    ($field:ident: raw $(, $($behind:tt)*)?) => { owned!($($($behind)*)?) };
+    ($field:ident: $mark:ident $(, $($behind:tt)*)?) => { ($field, owned!($($($behind)*)?)) };
+}
+
+/// A field of the new call: a number or bytes are as they were.
+macro_rules! value {
+    ($field:ident wide) => { *$field };
+    ($field:ident short) => { *$field };
+    ($field:ident raw) => { *$field };
+    ($field:ident $mark:ident) => { $field };
 }
 
 /// The section of this name, handed on.
@@ -50,7 +56,7 @@ macro_rules! put {
     (($call:expr, $alloc:expr, $named:expr, $made:expr, { $($other:tt)* }) $($row:literal $name:ident $method:ident($($field:ident: $mark:ident),+);)+) => {
         match $call {
             $(Call::$name { $($field),+ } => match put_all($alloc, &marked!($($field: $mark),+), $named, $made) {
-                Ok(owned!($($field),+)) => Ok(Call::$name { $($field),+ }),
+                Ok(owned!($($field: $mark),+)) => Ok(Call::$name { $($field: value!($field $mark)),+ }),
                 Err(fault) => Err(fault),
             },)+
             $($other)*
@@ -59,25 +65,81 @@ macro_rules! put {
 }
 
 /// Appends the ids that a call names, by its row.
-macro_rules! collected {
-    ($call:expr, $ids:expr, { $($other:tt)* }; $($section:ident { $($row:literal $name:ident $method:ident($($field:ident: $mark:ident),+);)+ })+) => {
+macro_rules! collect {
+    (($call:expr, $ids:expr, { $($other:tt)* }) $($row:literal $name:ident $method:ident($($field:ident: $mark:ident),+);)+) => {
         match $call {
-            $($(Call::$name { $($field),+ } => marked!($($field: $mark),+).collect($ids),)+)+
+            $(Call::$name { $($field),+ } => marked!($($field: $mark),+).collect($ids),)+
             $($other)*
         }
     };
 }
 
 /// Appends the ids that a call names, in order.
-#[tactic(auto, unfolding(gfx_script_model::specs::Ids::uses_of))]
+#[tactic(auto, using(crate::proofs::Numbers::call_number))]
 pub(crate) fn collect_ids(call: &Call<'_>, ids: &mut Vec<u64>) -> Result<(), AllocError>
     ensures { OnOk result (ids.new.items ≡ ids.old.items ++ uses_of 2 (event_of_call call.now)) }
 {
-    calls!(collected, call, ids, {
+    match call_id(call) {
+        1..=7 => collect_devices(call, ids),
+        8..=17 => collect_memory(call, ids),
+        18..=25 => collect_pools(call, ids),
+        26..=33 => collect_commands(call, ids),
+        34..=40 => collect_signals(call, ids),
+        _ => collect_swapchains(call, ids),
+    }
+}
+
+#[tactic(auto, unfolding(gfx_script_model::specs::Ids::uses_of, gfx_model::specs::Spelling::id_of))]
+fn collect_devices(call: &Call<'_>, ids: &mut Vec<u64>) -> Result<(), AllocError>
+    requires { IsTrue (is_between 1 7 (id_of (event_of_call call.now))) }
+    ensures { OnOk result (ids.new.items ≡ ids.old.items ++ uses_of 2 (event_of_call call.now)) }
+{
+    calls!(section, devices collect(call, ids, { _ => unreachable!(), }))
+}
+
+#[tactic(auto, unfolding(gfx_script_model::specs::Ids::uses_of, gfx_model::specs::Spelling::id_of))]
+fn collect_memory(call: &Call<'_>, ids: &mut Vec<u64>) -> Result<(), AllocError>
+    requires { IsTrue (is_between 8 17 (id_of (event_of_call call.now))) }
+    ensures { OnOk result (ids.new.items ≡ ids.old.items ++ uses_of 2 (event_of_call call.now)) }
+{
+    calls!(section, memory collect(call, ids, { _ => unreachable!(), }))
+}
+
+#[tactic(auto, unfolding(gfx_script_model::specs::Ids::uses_of, gfx_model::specs::Spelling::id_of))]
+fn collect_pools(call: &Call<'_>, ids: &mut Vec<u64>) -> Result<(), AllocError>
+    requires { IsTrue (is_between 18 25 (id_of (event_of_call call.now))) }
+    ensures { OnOk result (ids.new.items ≡ ids.old.items ++ uses_of 2 (event_of_call call.now)) }
+{
+    calls!(section, pools collect(call, ids, { _ => unreachable!(), }))
+}
+
+#[tactic(auto, unfolding(gfx_script_model::specs::Ids::uses_of, gfx_model::specs::Spelling::id_of))]
+fn collect_commands(call: &Call<'_>, ids: &mut Vec<u64>) -> Result<(), AllocError>
+    requires { IsTrue (is_between 26 33 (id_of (event_of_call call.now))) }
+    ensures { OnOk result (ids.new.items ≡ ids.old.items ++ uses_of 2 (event_of_call call.now)) }
+{
+    calls!(section, commands collect(call, ids, { _ => unreachable!(), }))
+}
+
+#[tactic(auto, unfolding(gfx_script_model::specs::Ids::uses_of, gfx_model::specs::Spelling::id_of))]
+fn collect_signals(call: &Call<'_>, ids: &mut Vec<u64>) -> Result<(), AllocError>
+    requires { IsTrue (is_between 34 40 (id_of (event_of_call call.now))) }
+    ensures { OnOk result (ids.new.items ≡ ids.old.items ++ uses_of 2 (event_of_call call.now)) }
+{
+    calls!(section, signals collect(call, ids, { _ => unreachable!(), }))
+}
+
+#[tactic(auto, unfolding(gfx_script_model::specs::Ids::uses_of, gfx_model::specs::Spelling::id_of))]
+fn collect_swapchains(call: &Call<'_>, ids: &mut Vec<u64>) -> Result<(), AllocError>
+    requires { IsTrue (is_between 41 48 (id_of (event_of_call call.now))) }
+    ensures { OnOk result (ids.new.items ≡ ids.old.items ++ uses_of 2 (event_of_call call.now)) }
+{
+    calls!(section, swapchains collect(call, ids, {
         Call::QueuePresentKHR { queue, waits, presents } => {
             marked!(queue: names, waits: names_each, presents: records).collect(ids)
         }
-    })
+        _ => unreachable!(),
+    }))
 }
 
 /// The call with these ids in place of those that it names and of those that it makes, in order.
@@ -193,7 +255,7 @@ fn put_swapchains<'c>(
         Call::QueuePresentKHR { queue, waits, presents } => {
             let fields = marked!(queue: names, waits: names_each, presents: records);
             match put_all(alloc, &fields, named, made) {
-                Ok(owned!(queue, waits, presents)) => Ok(Call::QueuePresentKHR { queue, waits, presents }),
+                Ok(owned!(queue: names, waits: names_each, presents: records)) => Ok(Call::QueuePresentKHR { queue, waits, presents }),
                 Err(fault) => Err(fault),
             }
         }
