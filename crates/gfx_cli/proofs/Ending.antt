@@ -21,6 +21,7 @@ use Rattle.gfx_play.specs.Shows.{Answers, lines_in, text_in}
 use Rattle.gfx_trim.specs.Trims as trim
 use Rattle.gfx_trim.specs.Written.{written}
 use Rattle.gfx_lean.specs.Leans as lean
+use Rattle.gfx_rewrite.specs.Rewrites as rewrite
 use Rattle.gfx_upgrade.specs.Upgrades as upgrade
 use Rattle.gfx_upgrade.specs.Upgrades.{upgraded}
 use Rattle.gfx_list.specs.Lists as list
@@ -138,16 +139,16 @@ lean_done r before after all rest is = record { good = is.inside; leaves = is.be
 -- ---- `upgrade`
 
 pub upgrade_fails : (why : PlayFault) (before after : Option (List ℕ)) (all rest : List ℕ) → upgrade.Answers before after (Err why) all rest → Stops Upgrade before after (of_play why) all rest
-upgrade_fails (play.Bad fault block offset) before after all rest is = (is.end, is.file)
+upgrade_fails (play.Bad fault block offset) before after all rest is = (is.end, is.text)
 upgrade_fails (play.NoSuchFrame first last) before after all rest is = absurd is
-upgrade_fails play.ReadFault before after all rest is = record { reads = tt; read = is.given; parts = is.parts; going = is.cut; text = is.file; front = inr is.front }
+upgrade_fails play.ReadFault before after all rest is = record { reads = tt; read = is.given; parts = is.parts; going = is.cut; text = is.text; front = inr is.front }
 upgrade_fails play.SinkFault before after all rest is = inr is
 upgrade_fails play.WantMemory before after all rest is = inr is
 
 pub upgrade_done : (before after : Option (List ℕ)) (all rest : List ℕ) → upgrade.Answers before after (Ok tt) all rest → IsDone Upgrade before after all rest
-upgrade_done before after all rest is = record { good = is.clean_end; leaves = is.read; text = is.file }
+upgrade_done before after all rest is = record { good = is.clean_end; leaves = is.read; text = is.text }
 
-pub upgrade_may : (why : PlayFault) → upgrade.AsksForNone why → MayStop Upgrade (of_play why)
+pub upgrade_may : (why : PlayFault) → rewrite.AsksForNone why → MayStop Upgrade (of_play why)
 upgrade_may (play.Bad fault block offset) asks = tt
 upgrade_may (play.NoSuchFrame first last) asks = absurd asks
 upgrade_may play.ReadFault asks = tt
@@ -166,7 +167,7 @@ list_fails play.WantMemory before after all rest is = inr is
 pub list_done : (before after : Option (List ℕ)) (all rest : List ℕ) → list.Answers before after (Ok tt) all rest → IsDone Lists before after all rest
 list_done before after all rest is = record { good = is.clean_end; leaves = is.read; text = is.text }
 
-pub list_may : (why : PlayFault) → upgrade.AsksForNone why → MayStop Lists (of_play why)
+pub list_may : (why : PlayFault) → rewrite.AsksForNone why → MayStop Lists (of_play why)
 list_may (play.Bad fault block offset) asks = tt
 list_may (play.NoSuchFrame first last) asks = absurd asks
 list_may play.ReadFault asks = tt

@@ -11,11 +11,11 @@ use Rattle.gfx_text_grammar.specs.Listings.{Listed, file_of, listed_of, read_lin
 use Rattle.gfx_text_grammar.proofs.SplitLaws.{lines_takes}
 use Rattle.gfx_text_grammar.proofs.TextLaws.{listed_is_read}
 use Rattle.gfx_listing_law.specs.Fronts.{BeginsWith, bytes_in}
-use Rattle.gfx_list.specs.Held.{Held, HeldPart}
+use Rattle.gfx_rewrite.specs.Held.{Held, HeldPart}
 use Rattle.gfx_list.specs.Unlists.{IsFront, UnlistsBy}
 use Rattle.gfx_list.specs.declared.fault.UnlistFault.{UnlistFault}
 use Rattle.gfx_list.specs.declared.fault.UnlistFault.TheVariants.{BadListing, ReadFault, SinkFault, WantMemory}
-use Rattle.gfx_list.proofs.Holding.{held_all, held_front, part_all, part_front}
+use Rattle.gfx_rewrite.proofs.Holding.{held_all, held_front, part_all, part_front}
 use Rattle.gfx_list.proofs.ReadLines.{lines_bytes}
 
 -- ---- what was held is written

@@ -1,4 +1,3 @@
-pub mod Holding
 pub mod ListedBlocks
 pub mod Finding
 pub mod Placing

@@ -9,13 +9,13 @@ use Rattle.gfx_decode.proofs.Told.{told_if}
 use Rattle.gfx_text_grammar.specs.Splits.{is_without}
 use Rattle.gfx_text_grammar.proofs.HeaderLaws.{header_takes}
 use Rattle.gfx_listing_law.specs.Fronts.{BeginsWith, IsCutLine, IsLongLine}
-use Rattle.gfx_list.specs.Held.{Held, HeldPart}
+use Rattle.gfx_rewrite.specs.Held.{Held, HeldPart}
 use Rattle.gfx_list.specs.Lines.{EndsInLine, Finds}
 use Rattle.gfx_list.specs.Parts.{IsNoHeader, IsNothing, IsOpened, TakesHeader, first_place}
 use Rattle.gfx_list.specs.Unlists.{IsBadListing, IsFront, UnlistsBy}
 use Rattle.gfx_list.specs.declared.fault.UnlistFault.{UnlistFault}
 use Rattle.gfx_list.specs.declared.fault.UnlistFault.TheVariants.{BadListing, ReadFault, SinkFault, WantMemory}
-use Rattle.gfx_list.proofs.Holding.{held_first, part_held}
+use Rattle.gfx_rewrite.proofs.Holding.{held_first, part_held}
 use Rattle.gfx_list.proofs.Placing.{first_is}
 use Rattle.gfx_list.proofs.ReadLines.{first_line, no_first_line, no_lines}
 use Rattle.gfx_list.proofs.TakenLines.{Unlisting, consumed, ends_here, told_now}

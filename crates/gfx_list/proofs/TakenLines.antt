@@ -17,13 +17,13 @@ use Rattle.gfx_text_grammar.specs.Lines.{read_line}
 use Rattle.gfx_text_grammar.specs.Listings.{Listed, file_of, read_lines, read_listing}
 use Rattle.gfx_text_grammar.proofs.TextLaws.{read_is_listed}
 use Rattle.gfx_listing_law.specs.Fronts.{BeginsWith, IsCutLine, IsLongLine, bytes_in}
-use Rattle.gfx_list.specs.Held.{Held, HeldPart, WritesSome}
+use Rattle.gfx_rewrite.specs.Held.{Held, HeldPart}
 use Rattle.gfx_list.specs.Lines.{EndsInLine, Finds, HasLineTo, Reads}
 use Rattle.gfx_list.specs.Parts.{IsNoBlock, TakesBlock}
 use Rattle.gfx_list.specs.Unlists.{IsBadListing, IsFront, IsUnread, UnlistsBy}
 use Rattle.gfx_list.specs.declared.fault.UnlistFault.{UnlistFault}
 use Rattle.gfx_list.specs.declared.fault.UnlistFault.TheVariants.{BadListing, ReadFault, SinkFault, WantMemory}
-use Rattle.gfx_list.proofs.Holding.{held_as, held_failed, held_more, held_some, part_held}
+use Rattle.gfx_rewrite.proofs.Holding.{held_as, held_failed, held_more, held_some, part_held}
 use Rattle.gfx_list.proofs.ReadLines.{all_more, file_more, lines_bytes, lines_more, lines_stop, place_in, place_more, text_more, text_read}
 
 -- ---- what is told of a source
@@ -104,7 +104,7 @@ line_taken m at next before after end held grown pending text left u h t =
 
 -- some of what was held was written
 pub some_written : (m : ℕ) (at : Position) (before mid after : Option (List ℕ)) (held new pending text left : List ℕ) → Unlisting m at before mid held pending text left
-    → WritesSome mid after held new → Unlisting m at before after new pending text left
+    → Held mid after new held → Unlisting m at before after new pending text left
 some_written m at before mid after held new pending text left u some = record {
   lines = u.lines;
   listed = u.listed;

@@ -2,5 +2,4 @@ pub mod Lists
 pub mod Unlists
 pub mod Lines
 pub mod Parts
-pub mod Held
 pub mod Laws

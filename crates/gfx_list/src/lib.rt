@@ -4,7 +4,6 @@
 ghost use Rattle.gfx_list.specs.Laws.{ListedIsGivenBack};
 
 mod fault;
-mod held;
 mod lines;
 mod listing;
 mod parts;

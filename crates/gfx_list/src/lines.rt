@@ -6,8 +6,9 @@ ghost use Rattle.gfx_text_grammar.specs.Splits.{is_without};
 ghost use Rattle.gfx_list.specs.Lines.{Finds, FindsFeed, HasLineTo, IsUngiven};
 
 use crate::UnlistFault;
-use crate::reading::{read_some, remove_front};
+use crate::reading::read_some;
 use gfx_io::Source;
+use gfx_rewrite::remove_front;
 use memchr::memchr;
 use std::alloc::Global;
 use std::marker::Model;

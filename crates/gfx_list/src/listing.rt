@@ -1,16 +1,14 @@
 //! The listing of a file, block by block.
-ghost use Rattle.std.specs.Prelude.{◌≡◌, ◌≤◌, [], Err, IfErr, OnOk};
+ghost use Rattle.std.specs.Prelude.{◌≡◌, ◌≤◌, Err, IfErr, OnOk};
 ghost use Rattle.gfx_io.specs.Causes.{Rose};
 ghost use Rattle.gfx_io.specs.Told.{IfTold};
-ghost use Rattle.gfx_upgrade.specs.Upgrades.{AsksForNone};
-ghost use Rattle.gfx_list.specs.Held.{Held, HeldPart};
-ghost use Rattle.gfx_list.specs.Lists.{Answers, AnswersBy, TookListing};
+ghost use Rattle.gfx_rewrite.specs.Rewrites.{AsksForNone};
+ghost use Rattle.gfx_list.specs.Lists.{Answers, TookListing};
 
-use crate::held::write_many;
-use crate::writing::{put_block_line, put_header_line};
-use gfx_decode::{Decoder, MOST_HEADER};
-use gfx_io::{Sink, Source, write_whole};
+use crate::writing::Listing;
+use gfx_io::{Sink, Source};
 use gfx_player::PlayFault;
+use gfx_rewrite::rewrite;
 use std::alloc::Global;
 
 /// Writes the listing of a file: a line for its header, and one for each block once it was read. It looks at the format alone and not
@@ -29,35 +27,5 @@ pub fn list<S: Source, K: Sink>(
     ensures sink_fault { result ≡ Err PlayFault.SinkFault → Rose (K.faults sink.old) (K.faults sink.new) }
     ensures later { (S.faults source.old ≤ S.faults source.new) × (K.faults sink.old ≤ K.faults sink.new) }
 {
-    let mut text = Vec::new(alloc);
-    let end = list_held(alloc, source, &mut text, sink);
-    write_whole(sink, &text)?;
-    end
-}
-
-/// The same, but the last lines are held back.
-fn list_held<S: Source, K: Sink>(
-    alloc: Global,
-    source: &mut S,
-    text: &mut Vec<u8>,
-    sink: &mut K,
-) -> Result<(), PlayFault>
-    requires { text.old.items ≡ [] }
-    ensures told { IfTold (S.left source.old) (S.left source.new)
-        (AnswersBy (Held (K.taken sink.old) (K.taken sink.new) text.new.items) (HeldPart (K.taken sink.old) (K.taken sink.new) text.new.items) result) }
-    ensures misses { IfErr result AsksForNone }
-    ensures read_fault { result ≡ Err PlayFault.ReadFault → Rose (S.faults source.old) (S.faults source.new) }
-    ensures sink_fault { result ≡ Err PlayFault.SinkFault → Rose (K.faults sink.old) (K.faults sink.new) }
-    ensures later { (S.faults source.old ≤ S.faults source.new) × (K.faults sink.old ≤ K.faults sink.new) }
-{
-    let mut decoder = Decoder::new(alloc);
-    let mut front = [0; MOST_HEADER];
-    let header = decoder.header_into(source, &mut front)?;
-    put_header_line(header, &front, text)?;
-    let mut buffer = Vec::new(alloc);
-    'reading: while let Some(raw) = decoder.next(source, &mut buffer)? {
-        put_block_line(header.minor, raw, text)?;
-        write_many(text, sink)?;
-    }
-    Ok(())
+    rewrite(alloc, &Listing, source, sink)
 }

@@ -1,5 +1,5 @@
 //! Bytes of a source, behind others.
-ghost use Rattle.std.specs.Prelude.{◌≡◌, ◌≤◌, ◌+◌, ◌^◌, ℕ, List, [], ◌++◌, length, drop, vec_len, IfOk, IfErr, OnErr, Err};
+ghost use Rattle.std.specs.Prelude.{◌≡◌, ◌≤◌, ◌+◌, ◌^◌, ℕ, List, [], ◌++◌, length, vec_len, IfOk, IfErr, OnErr, Err};
 ghost use Rattle.std.specs.Io.KnownBytes.{Consumes, IsAtEnd};
 ghost use Rattle.gfx_io.specs.Causes.{Rose};
 ghost use Rattle.gfx_list.specs.Lines.{IsUngiven};
@@ -38,18 +38,4 @@ pub(crate) fn read_some<S: Source>(
             Err(UnlistFault::ReadFault)
         }
     }
-}
-
-/// Lets go of so many bytes at the front.
-pub(crate) fn remove_front(buffer: &mut Vec<u8>, count: usize)
-    requires { count ≤ vec_len buffer.old }
-    ensures { buffer.new.items ≡ drop count buffer.old.items }
-{
-    // a long line is read in many pieces, and must not be moved for each
-    if count == 0 {
-        return;
-    }
-    let length = buffer.len();
-    buffer.copy_within(count..length, 0);
-    buffer.truncate(length - count);
 }

@@ -2,15 +2,15 @@
 ghost use Rattle.std.specs.Prelude.{◌≡◌, ◌≢◌, ◌≤◌, [], Err, IfOk, OnErr};
 ghost use Rattle.gfx_io.specs.Causes.{Rose};
 ghost use Rattle.gfx_io.specs.Told.{IfTold};
-ghost use Rattle.gfx_list.specs.Held.{Held, HeldPart};
+ghost use Rattle.gfx_rewrite.specs.Held.{Held, HeldPart};
 ghost use Rattle.gfx_list.specs.Parts.{IsHeaderOf, Opens};
 ghost use Rattle.gfx_list.specs.Unlists.{Unlists, UnlistsBy};
 
 use crate::UnlistFault;
-use crate::held::write_many;
 use crate::lines::Lines;
 use crate::parts::{first_place, take_block, take_header};
-use gfx_io::{Sink, Source, write_whole};
+use gfx_io::{Sink, Source};
+use gfx_rewrite::{write_held, write_many};
 use std::alloc::Global;
 
 /// Writes the file of a listing: the bytes of its header, and of each block once its line was read. What the lines before a bad one
@@ -27,7 +27,7 @@ pub fn unlist<S: Source, K: Sink>(
 {
     let mut bytes = Vec::new(alloc);
     let end = unlist_held(alloc, source, &mut bytes, sink);
-    write_whole(sink, &bytes)?;
+    write_held(&mut bytes, sink)?;
     end
 }
 

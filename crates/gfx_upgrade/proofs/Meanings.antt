@@ -9,14 +9,13 @@ use Rattle.gfx_model.specs.Meaning.{Judged, content_fault, content_onto, judge, 
 use Rattle.gfx_model.specs.Spelling.{header}
 use Rattle.gfx_grammar.specs.Reads.{AreBytes}
 use Rattle.gfx_grammar.specs.Framing.{Splits, placed}
-use Rattle.gfx_grammar.specs.Splitting.{Blocks, block_at, blocks_from, blocks_of}
+use Rattle.gfx_grammar.specs.Splitting.{Blocks, block_at, blocks_of}
 use Rattle.gfx_grammar.proofs.BlockLaws.{blocks_are_computed}
 use Rattle.gfx_grammar.proofs.HeaderLaws.{blocks_of-bad, blocks_of-good}
 use Rattle.gfx_grammar.proofs.SplitLaws.{splits_in_one_way}
 use Rattle.gfx_player.specs.Meanings.{judged_of}
 use Rattle.gfx_upgrade.specs.Laws.{IsSameEnd, SaysTheSame, UpgradedSaysTheSame, upgraded_part}
 use Rattle.gfx_upgrade.specs.Upgraded.{upgraded_block, upgraded_by}
-use Rattle.gfx_upgrade.specs.Upgrades.{upgraded}
 use Rattle.gfx_upgrade.proofs.UpgradedLaws.{same_contents, upgraded_is_read}
 
 -- the same history, and the same end but for its place

@@ -5,6 +5,7 @@ use Rattle.gfx_model.specs.Events.Event.{QueuePresentKHR}
 use Rattle.gfx_model.specs.Spelling.{header, encoding}
 use Rattle.gfx_model.specs.Blocks.{Content, Whole, End, AreBlocks}
 use Rattle.gfx_model.specs.Blocks.Content.{skipped, effect}
+use Rattle.gfx_rewrite.specs.Texts.{Texts}
 
 -- the event is a present, the one call that version 2 spells in another way
 abbrev pub is_present : Event → Bool
@@ -20,6 +21,10 @@ upgraded_event bytes thread _ = bytes
 abbrev pub upgraded_block : Whole → Content → List ℕ
 upgraded_block w skipped = w.bytes
 upgraded_block w (effect thread event) = upgraded_event w.bytes thread event
+
+-- what is written in version 2: a header without options, and each block so
+abbrev pub in_version_two : Texts
+in_version_two = record { of_header = λ bytes. header 2; of_block = λ minor w. upgraded_block w w.content }
 
 -- a header without options, and the blocks
 abbrev pub upgraded_by : List Whole → List ℕ

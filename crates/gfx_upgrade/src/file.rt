@@ -2,13 +2,14 @@
 ghost use Rattle.std.specs.Prelude.{◌≡◌, ◌≤◌, Err, IfErr, OnOk};
 ghost use Rattle.gfx_io.specs.Causes.{Rose};
 ghost use Rattle.gfx_io.specs.Told.{IfTold};
+ghost use Rattle.gfx_rewrite.specs.Rewrites.{AsksForNone};
 ghost use Rattle.gfx_upgrade.specs.Laws.{TookSame};
-ghost use Rattle.gfx_upgrade.specs.Upgrades.{Answers, AsksForNone};
+ghost use Rattle.gfx_upgrade.specs.Upgrades.{Answers};
 
-use crate::writing::{write_block, write_header};
-use gfx_decode::Decoder;
+use crate::version::VersionTwo;
 use gfx_io::{Sink, Source};
 use gfx_player::PlayFault;
+use gfx_rewrite::rewrite;
 use std::alloc::Global;
 
 /// Writes a file in version 2: a header without options, and each block once it was read, as it stands, but of a present its
@@ -28,13 +29,5 @@ pub fn upgrade<S: Source, K: Sink>(
     ensures sink_fault { result ≡ Err PlayFault.SinkFault → Rose (K.faults sink.old) (K.faults sink.new) }
     ensures later { (S.faults source.old ≤ S.faults source.new) × (K.faults sink.old ≤ K.faults sink.new) }
 {
-    let mut decoder = Decoder::new(alloc);
-    let header = decoder.header(source)?;
-    let mut room = Vec::new(alloc);
-    write_header(&mut room, sink)?;
-    let mut buffer = Vec::new(alloc);
-    'reading: while let Some(raw) = decoder.next(source, &mut buffer)? {
-        write_block(header.minor, raw, &mut room, sink)?;
-    }
-    Ok(())
+    rewrite(alloc, &VersionTwo, source, sink)
 }

@@ -4,7 +4,7 @@
 ghost use Rattle.gfx_upgrade.specs.Laws.{UpgradedIsRead, UpgradedSaysTheSame};
 
 mod file;
-mod writing;
+mod version;
 
 pub use file::upgrade;
 

@@ -1,28 +1,23 @@
-use Rattle.std.proofs.Common.{subst}
-use Rattle.std.specs.Io.KnownBytes.{Appends}
 use Rattle.std.proofs.lemmas.Result.{err_from_is_err_and}
-use Rattle.gfx_io.specs.Pieces.{AppendsPart}
 use Rattle.gfx_decode.proofs.Told.{told_if}
 use Rattle.gfx_list.proofs.Flushing.{unlists_all, unlists_front}
 use Rattle.gfx_list.proofs.unlisting.unlist.Goals as goal
 
 -- a front of what was held was written
-pub returns-in_err-write_whole-clause-told : goal.returns-in_err-write_whole-clause-told
-returns-in_err-write_whole-clause-told g c =
+pub returns-in_err-write_held-clause-told : goal.returns-in_err-write_held-clause-told
+returns-in_err-write_held-clause-told g c =
     let p = err_from_is_err_and c.from_residual.result c.from_residual.ensures.1 in
     let before = g.K.Sink.taken c.args.sink.now in
     let mid = g.K.Sink.taken c.unlist_held-end.new.sink in
-    let after = g.K.Sink.taken c.write_whole.new.sink in
+    let after = g.K.Sink.taken c.write_held.new.sink in
     let held = c.unlist_held-end.new.bytes.items in
-    let part : AppendsPart mid after held = subst (AppendsPart mid after) c.deref.ensures.value c.in_err-write_whole.ensures.failed in
-    rw (p.1, p.2) (told_if _ _ _ _ c.unlist_held-end.ensures.told (λ text left a. unlists_front c.unlist_held-end.result before mid after held text left part a))
+    rw (p.1, p.2) (told_if _ _ _ _ c.unlist_held-end.ensures.told (λ text left a. unlists_front c.unlist_held-end.result before mid after held text left c.in_err-write_held.ensures.failed a))
 
 -- all of it was written
 pub returns-clause-told : goal.returns-clause-told
 returns-clause-told g c =
     let before = g.K.Sink.taken c.args.sink.now in
     let mid = g.K.Sink.taken c.unlist_held-end.new.sink in
-    let after = g.K.Sink.taken c.write_whole.new.sink in
+    let after = g.K.Sink.taken c.write_held.new.sink in
     let held = c.unlist_held-end.new.bytes.items in
-    let all_of : Appends mid after held = subst (Appends mid after) c.deref.ensures.value c.in_ok-write_whole.ensures.bytes in
-    told_if _ _ _ _ c.unlist_held-end.ensures.told (λ text left a. unlists_all c.unlist_held-end.result before mid after held text left all_of a)
+    told_if _ _ _ _ c.unlist_held-end.ensures.told (λ text left a. unlists_all c.unlist_held-end.result before mid after held text left c.in_ok-write_held.ensures.bytes a)

@@ -1,0 +1,4 @@
+pub mod Texts
+pub mod Puts
+pub mod Held
+pub mod Rewrites
