@@ -97,15 +97,43 @@ fn each_read_and_each_write_may_fail(rt: HostRuntime) -> Result<(), Fail> {
         assert_eq!(rt; ended.status, 5);
         assert!(rt; wanted.starts_with(&ended.text));
     }
-    for call in 1..=23 {
+    // The write of each ten bytes may fail.
+    for call in 1..=(wanted.len() as u64).div_ceil(10) {
         let calls = [call];
         let write = Outside {
             failing_writes: &calls,
+            most: 10,
             ..Outside::of(WORDS, &file)
         };
         let ended = write.run(rt.alloc())?;
         assert_eq!(rt; ended.status, 6);
         assert!(rt; wanted.starts_with(&ended.text));
+    }
+    Ok(())
+}
+
+#[test]
+fn blocks_longer_than_what_is_held_back_stay(rt: HostRuntime) -> Result<(), Fail> {
+    let mut file = file_of(rt.alloc(), 2, &[])?;
+    for size in [5u32, 65_507, 65_537, 3, 200_000, 65_536, 0] {
+        file.extend_from_slice(&u64::from(size).to_le_bytes())?;
+        file.extend_from_slice(&[1, 0, 0, 0])?;
+        for byte in 0..size {
+            file.push(byte.to_le_bytes()[0])?;
+        }
+    }
+    Outside::of(WORDS, &file).ends(rt.alloc(), 0, &file, b"")?;
+    // Pieces of 65,536 bytes are written, two of them at once, and then the rest.
+    for call in 1..=6 {
+        let calls = [call];
+        let write = Outside {
+            failing_writes: &calls,
+            most: file.len(),
+            ..Outside::of(WORDS, &file)
+        };
+        let ended = write.run(rt.alloc())?;
+        assert_eq!(rt; ended.status, 6);
+        assert!(rt; file.starts_with(&ended.text));
     }
     Ok(())
 }
