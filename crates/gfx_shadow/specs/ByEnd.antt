@@ -1,5 +1,5 @@
 -- Stretches of bytes, each kept under the offset behind its last byte.
-use Rattle.std.specs.Prelude.{◌≡◌, ℕ, ◌<◌, ◌≤◌, ◌⊎◌, Option, Some}
+use Rattle.std.specs.Prelude.{◌≡◌, ℕ, ◌-◌, ◌<◌, ◌≤◌, ◌⊎◌, Option, Some}
 use Rattle.std.specs.Option.{option_and_then}
 use Rattle.std.specs.Ordering.{nat_cmp}
 use Rattle.std.specs.FinMap as map
@@ -26,6 +26,16 @@ pub record Touches (m : map.FinMap nat_cmp Stretch) (from to : ℕ) (s : Stretch
 -- no stretch touches them
 abbrev pub IsClear : map.FinMap nat_cmp Stretch → ℕ → ℕ → Type 0
 IsClear m from to = (key : ℕ) (s : Stretch) → map.get m key ≡ Some s → (key < from) ⊎ (to < s.start)
+
+-- no stretch that touches an offset is longer than this one
+abbrev pub IsLongestAt : map.FinMap nat_cmp Stretch → ℕ → Stretch → Type 0
+IsLongestAt m offset s = (t : Stretch) → Touches m offset offset t → t.end - t.start ≤ s.end - s.start
+
+-- this one of the stretches touches a piece, and none that touches one of its ends is longer
+pub record IsLongest (m : map.FinMap nat_cmp Stretch) (offset end : ℕ) (s : Stretch) : Type 0 where
+  pub touches : Touches m offset end s
+  pub left : IsLongestAt m offset s
+  pub right : IsLongestAt m end s
 
 -- the stretches that touch the offsets from one up to another lie among them
 pub record IsHull (m : map.FinMap nat_cmp Stretch) (from to : ℕ) : Type 0 where

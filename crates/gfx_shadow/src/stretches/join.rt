@@ -1,7 +1,7 @@
 //! Stretches that are taken out, joined and put back.
 ghost use Rattle.std.specs.Prelude.{◌≡◌, ℕ, ◌<◌, ◌≤◌, Some, length};
 ghost use Rattle.std.specs.FinMap as map;
-ghost use Rattle.gfx_shadow.specs.ByEnd.{byte_of, AreApart, Touches, IsClear, IsHull, Fits};
+ghost use Rattle.gfx_shadow.specs.ByEnd.{byte_of, AreApart, IsClear, IsLongestAt, IsHull, Fits};
 ghost use Rattle.gfx_shadow.specs.Overlay.{either};
 ghost use Rattle.gfx_shadow.specs.Stretch.{stretch_byte};
 ghost use Rattle.gfx_shadow.specs.Writes.{memory_limit};
@@ -22,6 +22,8 @@ pub(super) fn take(by_end: &mut Table<Stretch>, alloc: Global, offset: usize, en
     ensures low { result.start ≤ end }
     ensures high { offset ≤ result.end }
     ensures hull { (from : ℕ) (to : ℕ) → IsHull by_end.old.map from to → from ≤ offset → end ≤ to → (from ≤ result.start) × (result.end ≤ to) }
+    ensures left { IsLongestAt by_end.old.map offset result }
+    ensures right { IsLongestAt by_end.old.map end result }
     ensures clear { result.start < result.end → IsClear by_end.new.map result.start result.end }
     ensures bytes { either (stretch_byte result) (byte_of by_end.new.map) ≡ byte_of by_end.old.map }
 {

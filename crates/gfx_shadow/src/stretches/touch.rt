@@ -1,7 +1,7 @@
 //! The stretches that a piece touches.
 ghost use Rattle.std.specs.Prelude.{◌≡◌, ℕ, ◌≤◌, MatchOption, Some};
 ghost use Rattle.std.specs.FinMap as map;
-ghost use Rattle.gfx_shadow.specs.ByEnd.{AreApart, Touches, IsClear};
+ghost use Rattle.gfx_shadow.specs.ByEnd.{AreApart, Touches, IsClear, IsLongest};
 ghost use Rattle.gfx_shadow.specs.Writes.{memory_limit};
 
 use crate::stretch::Stretch;
@@ -58,12 +58,18 @@ pub(super) fn joined_end(by_end: &Table<Stretch>, offset: usize) -> usize
 pub(super) fn longest(by_end: &Table<Stretch>, offset: usize, end: usize) -> Option<&Stretch>
     requires apart { AreApart by_end.now.map }
     requires forward { offset ≤ end }
-    ensures { MatchOption result Unit (λ s. Touches by_end.now.map offset end s.now) }
+    ensures { MatchOption result (IsClear by_end.now.map offset offset × IsClear by_end.now.map end end) (λ s. IsLongest by_end.now.map offset end s.now) }
 {
     match touching(by_end, offset, offset) {
         Some(left) => match touching(by_end, end, end) {
-            Some(right) if left.end - left.start < right.end - right.start => Some(right),
-            _ => Some(left),
+            Some(right) => {
+                if left.end - left.start < right.end - right.start {
+                    Some(right)
+                } else {
+                    Some(left)
+                }
+            }
+            None => Some(left),
         },
         None => touching(by_end, end, end),
     }

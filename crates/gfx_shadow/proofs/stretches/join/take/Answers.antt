@@ -29,6 +29,6 @@ returns-clause-bytes c =
     let start = c.new.ensures.start in let end = c.new.ensures.end in
     empty_bytes c.new.result (byte_of c.match-longest.by_end.map) (omega (arith, start, end))
     ∙ elim c.match-longest.branch [
-      | in-Some+in_default-remove w ↦ absurd (let a = w.in-Some.ensures.here in let b = w.in_default-remove.ensures.value in cc)
+      | in-Some+in_default-remove w ↦ absurd (let a = w.in-Some.ensures.touches.here in let b = w.in_default-remove.ensures.value in cc)
       | in_default w ↦ ap (λ t. byte_of t.map) w.by_end-is
     ]
