@@ -7,7 +7,7 @@ use crate::kind::ScriptKind;
 use std::alloc::{AllocError, AllocFailed};
 
 /// Why a line adds nothing to what was read: it is refused, or there is no memory.
-#[derive(Clone, Copy, Debug, PartialEq, Eq)]
+#[derive(Clone, Copy)]
 pub enum LineFault {
     Refused(ScriptKind),
     WantMemory,

@@ -8,23 +8,23 @@ use gfx_types::Ids;
 use std::alloc::{AllocError, Global};
 
 /// An id that a call names, or may name.
-#[derive(Clone, Copy, Debug)]
+#[derive(Clone, Copy)]
 pub(crate) struct Names(pub u64);
 
 /// An id that a call makes.
-#[derive(Clone, Copy, Debug)]
+#[derive(Clone, Copy)]
 pub(crate) struct Makes(pub u64);
 
 /// A list of ids that a call names.
-#[derive(Clone, Copy, Debug)]
+#[derive(Clone, Copy)]
 pub(crate) struct NamesEach<'c>(pub &'c Ids);
 
 /// A list of ids that a call makes.
-#[derive(Clone, Copy, Debug)]
+#[derive(Clone, Copy)]
 pub(crate) struct MakesEach<'c>(pub &'c Ids);
 
 /// The end of the fields.
-#[derive(Clone, Copy, Debug)]
+#[derive(Clone, Copy)]
 pub(crate) struct End;
 
 /// A field, or several in order, whose ids can be taken down and exchanged.

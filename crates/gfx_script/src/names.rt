@@ -12,7 +12,7 @@ use std::collections::BTreeMap;
 use std::marker::Model;
 
 /// A name, and where it was defined.
-#[derive(Clone, Copy, Debug)]
+#[derive(Clone, Copy)]
 struct Definition<'t> {
     name: &'t [u8],
     phase: usize,

@@ -20,7 +20,7 @@ use gfx_types::{Effect, Ids, Meta, WantMemory};
 use std::alloc::{AllocError, Global};
 
 /// Where a line stands: its number, the minor version, and its phase and thread.
-#[derive(Clone, Copy, Debug)]
+#[derive(Clone, Copy)]
 pub(crate) struct Place {
     pub number: u32,
     pub minor: u32,

@@ -9,7 +9,7 @@ ghost use Rattle.gfx_script.specs.Plain.{form_of_plain, digit_value, thread_in, 
 use crate::words::is_word;
 
 /// The form of a line that is no statement.
-#[derive(Clone, Copy, Debug, PartialEq, Eq)]
+#[derive(Clone, Copy)]
 pub(crate) enum Plain {
     Skips,
     SetsVersion,

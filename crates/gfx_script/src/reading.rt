@@ -22,7 +22,7 @@ use std::alloc::{AllocError, Global};
 use std::mem;
 
 /// Where the text stands.
-#[derive(Clone, Copy, Debug, PartialEq, Eq)]
+#[derive(Clone, Copy, PartialEq, Eq)]
 pub(crate) enum Stage {
     NoPhase,
     InPhase,
