@@ -200,13 +200,21 @@ fn assert_in_order<R: Abort>(rt: &R, alloc: Global, file: &[u8]) -> Result<(), A
     Ok(())
 }
 
-/// What the log shows when it is replayed to its clean end.
-fn replayed(alloc: Global, log: &Log) -> Result<Vec<u8>, Fail> {
-    let bytes = Vec::from_slice(alloc, log.bytes())?;
+/// What a file shows when it is replayed to its clean end.
+fn replayed(alloc: Global, file: &[u8]) -> Result<Vec<u8>, Fail> {
+    let bytes = Vec::from_slice(alloc, file)?;
     let mut source = MemSource::new(bytes, 4096, Vec::new(alloc));
     let mut sink = MemSink::new(alloc, 4096, Vec::new(alloc));
     show_frames(alloc, Asked::All, false, &mut source, &mut sink)?;
     Ok(sink.into_bytes())
+}
+
+/// No call is missing in the log, and it shows no frame.
+fn assert_log<R: Abort>(rt: &R, alloc: Global, log: &Log) -> Result<(), Fail> {
+    assert_in_order(rt, alloc, log.bytes())?;
+    let shown = replayed(alloc, log.bytes())?;
+    assert_eq!(rt; shown.as_slice(), b"frames 0\n".as_slice());
+    Ok(())
 }
 
 #[test]
@@ -215,8 +223,5 @@ fn eight_threads_call_at_one_capture(rt: HostRuntime) -> Result<(), Fail> {
     let (capture, callers) = open(alloc, THREADS)?;
     let callers = play_each(&rt, alloc, &capture, callers);
     let log = close(alloc, capture, callers)?;
-    assert_in_order(&rt, alloc, log.bytes())?;
-    let shown = replayed(alloc, &log)?;
-    assert_eq!(rt; shown.as_slice(), b"frames 0\n".as_slice());
-    Ok(())
+    assert_log(&rt, alloc, &log)
 }

@@ -1,9 +1,10 @@
 //! Two passes on one thread, worked out by hand.
+ghost use Rattle.std.specs.Prelude.{◌≡◌, All, length};
 ghost use Rattle.gfx_callers.specs.Caller.{CallsAt};
 
 use crate::taking::take_last;
 use gfx_callers::{Caller, Creation, Use, close, open};
-use gfx_capture::{AppendFault, Capture, Receipt};
+use gfx_capture::{AppendFault, Capture, Log, Receipt};
 use gfx_types::Fault;
 use std::alloc::Global;
 use std::process::Abort;
@@ -42,19 +43,40 @@ fn act<R: Abort + Wait>(
     assert_eq!(rt; first.written(capture), 2);
 }
 
-#[test]
-fn two_passes_share_one_history(rt: HostRuntime) -> Result<(), Fail> {
-    let alloc = rt.alloc();
-    let (capture, mut callers) = open(alloc, 2)?;
-    let mut first = take_last(&rt, &capture, &mut callers);
-    let mut second = take_last(&rt, &capture, &mut callers);
+/// Both passes act, and are given back.
+fn act_both<R: Abort + Wait>(
+    rt: &R,
+    alloc: Global,
+    capture: &Capture,
+    callers: Vec<Caller>,
+) -> Vec<Caller>
+    requires { All (λ c. CallsAt c capture.now) callers.items }
+    ensures capture { All (λ c. CallsAt c capture.now) result.items }
+    ensures count { length result.items ≡ 2 }
+{
+    let mut callers = callers;
+    let mut first = take_last(rt, capture, &mut callers);
+    let mut second = take_last(rt, capture, &mut callers);
     assert_eq!(rt; (first.thread(), second.thread()), (0, 1));
-    act(&rt, alloc, &capture, &mut first, &mut second);
-    let log = close(alloc, capture, vec![in alloc; first, second]?)?;
+    act(rt, alloc, capture, &mut first, &mut second);
+    vec![in alloc; first, second].expect(rt, "memory")
+}
+
+/// Both blocks stand under their threads.
+fn assert_both<R: Abort>(rt: &R, log: &Log) {
     assert_eq!(rt; log.blocks(), 2);
     let bytes = log.bytes();
     assert_eq!(rt; bytes.len(), 84);
     let threads = (bytes.get(32), bytes.get(68));
     assert_eq!(rt; threads, (Some(&0), Some(&1)), "the threads of both blocks");
+}
+
+#[test]
+fn two_passes_share_one_history(rt: HostRuntime) -> Result<(), Fail> {
+    let alloc = rt.alloc();
+    let (capture, callers) = open(alloc, 2)?;
+    let callers = act_both(&rt, alloc, &capture, callers);
+    let log = close(alloc, capture, callers)?;
+    assert_both(&rt, &log);
     Ok(())
 }

@@ -1,10 +1,11 @@
 //! A log up to its last byte.
 ghost use Rattle.std.specs.Prelude.{◌≡◌};
-ghost use Rattle.gfx_model.specs.Events.{event_of};
+ghost use Rattle.gfx_model.specs.Events.{event_of, event_of_call};
 ghost use Rattle.gfx_capture.specs.ThreadBuffer.{CanBePut};
 
 use gfx_capture::{AppendFault, Log, Receipt, ThreadBuffer};
 use gfx_types::{Call, Effect, Meta};
+use std::alloc::Global;
 use std::process::Abort;
 use std::test::Fail;
 
@@ -31,6 +32,19 @@ fn append(
     }
 }
 
+/// The same of a call, which is let go of here alone.
+fn append_call(
+    log: &mut Log,
+    buffer: &mut ThreadBuffer,
+    call: Call<'_>,
+) -> Result<Receipt, AppendFault>
+    requires minor { (log.old.minor ≡ 1) × (buffer.old.minor ≡ 1) }
+    requires fits { CanBePut 1 (event_of_call call) }
+    ensures minor { (log.new.minor ≡ 1) × (buffer.new.minor ≡ 1) }
+{
+    append(log, buffer, &Effect::Call(call))
+}
+
 /// An instance, a device, and a memory of all bytes that there may be, which is mapped whole.
 #[tactic(auto, unfolding(gfx_model::specs::Spelling::fields_of, gfx_model::specs::Spelling::spelling, gfx_model::specs::Spelling::payload, gfx_model::specs::Spelling::type_of, gfx_model::specs::Spelling::id_of))]
 fn append_objects(log: &mut Log, buffer: &mut ThreadBuffer) -> Result<Receipt, AppendFault>
@@ -40,16 +54,16 @@ fn append_objects(log: &mut Log, buffer: &mut ThreadBuffer) -> Result<Receipt, A
     let (instance, device, memory) = (1, 2, 3);
     let (api, offset) = (1, 0);
     let call = Call::CreateInstance { instance, api };
-    append(log, buffer, &Effect::Call(call))?;
+    append_call(log, buffer, call)?;
     let call = Call::CreateDevice { instance, device };
-    append(log, buffer, &Effect::Call(call))?;
+    append_call(log, buffer, call)?;
     let size = 1 << 28;
     let call = Call::AllocateMemory {
         device,
         memory,
         size,
     };
-    append(log, buffer, &Effect::Call(call))?;
+    append_call(log, buffer, call)?;
     let size = u64::MAX;
     let call = Call::MapMemory {
         device,
@@ -57,7 +71,7 @@ fn append_objects(log: &mut Log, buffer: &mut ThreadBuffer) -> Result<Receipt, A
         offset,
         size,
     };
-    append(log, buffer, &Effect::Call(call))
+    append_call(log, buffer, call)
 }
 
 /// What appending a fill of the memory with these bytes answers.
@@ -101,15 +115,27 @@ fn fill_up<R: Abort>(rt: &R, log: &mut Log, buffer: &mut ThreadBuffer, large: &[
     assert_eq!(rt; log.bytes().len(), 1 << 28);
 }
 
-#[test]
-fn a_log_is_filled_to_its_last_byte(rt: HostRuntime) -> Result<(), Fail> {
-    let alloc = rt.alloc();
-    let mut log = Log::new(alloc, 1)?;
-    let mut buffer = ThreadBuffer::new(alloc, 1);
-    let objects = append_objects(&mut log, &mut buffer);
+/// A log with its objects, filled up.
+fn fill_whole<R: Abort>(
+    rt: &R,
+    alloc: Global,
+    log: &mut Log,
+    buffer: &mut ThreadBuffer,
+) -> Result<(), Fail>
+    requires minor { (log.old.minor ≡ 1) × (buffer.old.minor ≡ 1) }
+{
+    let objects = append_objects(log, buffer);
     assert_eq!(rt; objects, Ok(Receipt { from: 3, count: 1 }));
     let large = vec![in alloc; 7u8; LARGE]?;
     let over = vec![in alloc; 7u8; OVER]?;
-    fill_up(&rt, &mut log, &mut buffer, &large, &over);
+    fill_up(rt, log, buffer, &large, &over);
     Ok(())
+}
+
+// The log is owned where there is one way out, since letting go of it takes long to prove.
+#[test]
+fn a_log_is_filled_to_its_last_byte(rt: HostRuntime) -> Result<(), Fail> {
+    let mut log = Log::new(rt.alloc(), 1)?;
+    let mut buffer = ThreadBuffer::new(rt.alloc(), 1);
+    fill_whole(&rt, rt.alloc(), &mut log, &mut buffer)
 }

@@ -35,10 +35,10 @@ fn gathered_writes_stand_before_the_next_submit_or_unmap(rt: HostRuntime) -> Res
             rt.alloc(),
             &[OBJECTS, lines, BEGIN, BARRIER, COPY, END, PRESENT],
         )?;
-        let (refusal, log) = run(&rt, rt.alloc(), &NoGate, gathers, text.as_slice())?;
-        assert_eq!(rt; refusal, refused);
+        let left = run(&rt, rt.alloc(), &NoGate, gathers, text.as_slice())?;
+        assert_eq!(rt; left.refused, refused);
         if refused.is_none() {
-            assert_eq!(rt; log.bytes().len(), length);
+            assert_eq!(rt; left.log.len(), length);
         }
     }
     Ok(())

@@ -12,10 +12,10 @@ const MORE: &[u8] = b"more = vkCreateInstance api=4194304\n";
 
 #[test]
 fn a_script_without_lines_leaves_the_header(rt: HostRuntime) -> Result<(), Fail> {
-    let (refusal, log) = record(&rt, rt.alloc(), &NoGate, b"")?;
-    assert_eq!(rt; refusal, None);
+    let left = record(&rt, rt.alloc(), &NoGate, b"")?;
+    assert_eq!(rt; left.refused, None);
     assert_eq!(rt;
-        log.bytes(),
+        left.log.as_slice(),
         b"GFXR\xe8\x03\0\0\x01\0\0\0\0\0\0\0".as_slice()
     );
     Ok(())
@@ -24,9 +24,9 @@ fn a_script_without_lines_leaves_the_header(rt: HostRuntime) -> Result<(), Fail>
 #[test]
 fn a_script_of_one_frame_leaves_its_file(rt: HostRuntime) -> Result<(), Fail> {
     let text = joined(rt.alloc(), &[OBJECTS, BEGIN, BARRIER, COPY, END, PRESENT])?;
-    let (refusal, log) = record(&rt, rt.alloc(), &NoGate, text.as_slice())?;
-    assert_eq!(rt; refusal, None);
-    assert_eq!(rt; log.bytes(), one_frame(rt.alloc())?.as_slice());
+    let left = record(&rt, rt.alloc(), &NoGate, text.as_slice())?;
+    assert_eq!(rt; left.refused, None);
+    assert_eq!(rt; left.log.as_slice(), one_frame(rt.alloc())?.as_slice());
     Ok(())
 }
 
@@ -36,10 +36,10 @@ fn what_stands_before_a_refused_command_is_kept(rt: HostRuntime) -> Result<(), F
         rt.alloc(),
         &[OBJECTS, BEGIN, BARRIER, LONG_COPY, END, PRESENT],
     )?;
-    let (refusal, log) = record(&rt, rt.alloc(), &NoGate, text.as_slice())?;
-    assert_eq!(rt; refusal, Some((19, Fault::OutOfRange, 16)));
-    assert_eq!(rt; log.bytes().len(), 783);
-    assert!(rt; one_frame(rt.alloc())?.as_slice().starts_with(log.bytes()));
+    let left = record(&rt, rt.alloc(), &NoGate, text.as_slice())?;
+    assert_eq!(rt; left.refused, Some((19, Fault::OutOfRange, 16)));
+    assert_eq!(rt; left.log.len(), 783);
+    assert!(rt; one_frame(rt.alloc())?.as_slice().starts_with(&left.log));
     Ok(())
 }
 
@@ -58,9 +58,9 @@ fn a_later_phase_uses_what_others_made(rt: HostRuntime) -> Result<(), Fail> {
             PRESENT,
         ],
     )?;
-    let (refusal, log) = record(&rt, rt.alloc(), &NoGate, text.as_slice())?;
-    assert_eq!(rt; refusal, None);
-    assert_eq!(rt; log.bytes().len(), one_frame(rt.alloc())?.len());
+    let left = record(&rt, rt.alloc(), &NoGate, text.as_slice())?;
+    assert_eq!(rt; left.refused, None);
+    assert_eq!(rt; left.log.len(), one_frame(rt.alloc())?.len());
     Ok(())
 }
 
@@ -70,9 +70,9 @@ fn no_phase_follows_a_refusal(rt: HostRuntime) -> Result<(), Fail> {
         rt.alloc(),
         &[OBJECTS, BEGIN, LONG_COPY, b"phase\nthread 1\n", MORE],
     )?;
-    let (refusal, log) = record(&rt, rt.alloc(), &NoGate, text.as_slice())?;
-    assert_eq!(rt; refusal, Some((18, Fault::OutOfRange, 15)));
-    assert_eq!(rt; log.bytes().len(), 731);
-    assert!(rt; one_frame(rt.alloc())?.as_slice().starts_with(log.bytes()));
+    let left = record(&rt, rt.alloc(), &NoGate, text.as_slice())?;
+    assert_eq!(rt; left.refused, Some((18, Fault::OutOfRange, 15)));
+    assert_eq!(rt; left.log.len(), 731);
+    assert!(rt; one_frame(rt.alloc())?.as_slice().starts_with(&left.log));
     Ok(())
 }

@@ -41,26 +41,23 @@ fn script_of(alloc: Global, gathers: bool, text: &[u8]) -> Result<Script, Fail>
     }
 }
 
-/// Runs the script that a text is, and gives what is refused, if anything is, and the log.
-pub(crate) fn record<R: Threads + Wait + Sync, G: Gate + Sync>(
-    rt: &R,
-    alloc: Global,
-    gate: &G,
-    text: &[u8],
-) -> Result<(Option<Refusal>, Log), Fail> {
-    run(rt, alloc, gate, false, text)
+/// What a run left: what is refused, if anything is, and the bytes of the log.
+#[derive(Drop)]
+pub(crate) struct Left {
+    pub(crate) refused: Option<Refusal>,
+    pub(crate) log: Vec<u8>,
 }
 
-/// The same, with the writes of its threads gathered where that is asked for.
-pub(crate) fn run<R: Threads + Wait + Sync, G: Gate + Sync>(
+/// What is refused, if anything is, and the log that a script leaves.
+fn log_of<R: Threads + Wait + Sync, G: Gate + Sync>(
     rt: &R,
     alloc: Global,
     gate: &G,
-    gathers: bool,
-    text: &[u8],
-) -> Result<(Option<Refusal>, Log), Fail> {
-    let script = script_of(alloc, gathers, text)?;
-    match record_script(rt, alloc, gate, &script) {
+    script: &Script,
+) -> Result<(Option<Refusal>, Log), Fail>
+    requires { IsPlayable script.now.minor (phases_of script.now.phases) }
+{
+    match record_script(rt, alloc, gate, script) {
         Outcome::Done { log } => Ok((None, log)),
         Outcome::Refused {
             line,
@@ -71,4 +68,44 @@ pub(crate) fn run<R: Threads + Wait + Sync, G: Gate + Sync>(
         Outcome::LogFull { .. } => Err(Fail::new("the log is full")),
         Outcome::WantMemory => Err(Fail::new("no memory")),
     }
+}
+
+fn kept_of(alloc: Global, refused: Option<Refusal>, log: &Log) -> Result<Left, Fail> {
+    let log = Vec::from_slice(alloc, log.bytes())?;
+    Ok(Left { refused, log })
+}
+
+// The log goes no further: a function that owns one lets go of it at each way out, which takes long to prove.
+fn run_script<R: Threads + Wait + Sync, G: Gate + Sync>(
+    rt: &R,
+    alloc: Global,
+    gate: &G,
+    script: &Script,
+) -> Result<Left, Fail>
+    requires { IsPlayable script.now.minor (phases_of script.now.phases) }
+{
+    let (refused, log) = log_of(rt, alloc, gate, script)?;
+    kept_of(alloc, refused, &log)
+}
+
+/// Runs the script that a text is.
+pub(crate) fn record<R: Threads + Wait + Sync, G: Gate + Sync>(
+    rt: &R,
+    alloc: Global,
+    gate: &G,
+    text: &[u8],
+) -> Result<Left, Fail> {
+    run(rt, alloc, gate, false, text)
+}
+
+/// The same, with the writes of its threads gathered where that is asked for.
+pub(crate) fn run<R: Threads + Wait + Sync, G: Gate + Sync>(
+    rt: &R,
+    alloc: Global,
+    gate: &G,
+    gathers: bool,
+    text: &[u8],
+) -> Result<Left, Fail> {
+    let script = script_of(alloc, gathers, text)?;
+    run_script(rt, alloc, gate, &script)
 }

@@ -78,8 +78,8 @@ fn threads_of_a_phase_run_at_once(rt: HostRuntime) -> Result<(), Fail> {
         other_answered: AtomicU64::new(0),
         missed: AtomicU64::new(0),
     };
-    let (refusal, _) = record(&rt, rt.alloc(), &gate, TWO_THREADS)?;
-    assert_eq!(rt; refusal, None);
+    let left = record(&rt, rt.alloc(), &gate, TWO_THREADS)?;
+    assert_eq!(rt; left.refused, None);
     assert_eq!(rt; gate.missed.load(Ordering::SeqCst), 0);
     assert_eq!(rt; gate.answered.load(Ordering::SeqCst), 2);
     assert_eq!(rt; gate.other_answered.load(Ordering::SeqCst), 2);
@@ -99,8 +99,8 @@ fn commands_are_appended_256_at_a_time(rt: HostRuntime) -> Result<(), Fail> {
         most: AtomicU64::new(0),
         out_of_order: AtomicU64::new(0),
     };
-    let (refusal, _) = record(&rt, rt.alloc(), &gate, text.as_slice())?;
-    assert_eq!(rt; refusal, None);
+    let left = record(&rt, rt.alloc(), &gate, text.as_slice())?;
+    assert_eq!(rt; left.refused, None);
     assert_eq!(rt; gate.out_of_order.load(Ordering::SeqCst), 0);
     assert_eq!(rt; gate.most.load(Ordering::SeqCst), 256);
     // twelve lines of objects, three up to the begin, the commands and the end

@@ -1,7 +1,6 @@
-//! A case of the table, and how cases are tried.
+//! A case of a table, and how cases are tried.
 
-use crate::entry::Entry;
-use crate::histories::{History, entries_in};
+use crate::histories::{push_effects, push_histories, push_line};
 use crate::reading::{effects_of, spelled};
 use gfx_tracker::{ApplyFault, Tracker};
 use gfx_types::{Effect, Fault, OpList};
@@ -9,63 +8,48 @@ use std::alloc::Global;
 use std::process::Abort;
 use std::test::Fail;
 
+/// What stands in the place of a fault where there is none.
+pub const TAKEN: &str = "taken";
+
 /// An effect after a history without a fault, and the fault that it has, if any. The history is that of the named ones,
-/// one after another, and then of further entries.
+/// one after another, and then of further effects.
 #[derive(Clone, Copy, Debug)]
-pub struct Case {
-    pub name: &'static str,
-    pub after: &'static [History],
-    pub then: &'static [Entry],
-    pub effect: Entry,
-    pub fault: Option<Fault>,
+struct Case<'a> {
+    name: &'a str,
+    after: &'a str,
+    then: &'a str,
+    effect: &'a str,
+    fault: &'a str,
 }
 
-/// Entries, each as its name and its numbers.
-macro_rules! entries {
-    ($($name:ident($($number:expr),*);)*) => {
-        [$(Entry { name: Name::$name, numbers: &[$($number),*] }),*]
-    };
-}
-
-/// Cases that have a fault: a name, histories and further entries, an effect and its fault.
-macro_rules! cases {
-    ($($text:literal: $($base:ident)* { $($before:tt)* } $name:ident($($number:expr),*) => $fault:ident;)*) => {
-        [$(Case {
-            name: $text,
-            after: &[$(History::$base),*],
-            then: &entries!($($before)*),
-            effect: Entry { name: Name::$name, numbers: &[$($number),*] },
-            fault: Some(Fault::$fault),
-        }),*]
-    };
-}
-
-/// Cases without a fault.
-macro_rules! accepted {
-    ($($text:literal: $($base:ident)* { $($before:tt)* } $name:ident($($number:expr),*);)*) => {
-        [$(Case {
-            name: $text,
-            after: &[$(History::$base),*],
-            then: &entries!($($before)*),
-            effect: Entry { name: Name::$name, numbers: &[$($number),*] },
-            fault: None,
-        }),*]
-    };
-}
-
-pub(crate) use accepted;
-pub(crate) use cases;
-pub(crate) use entries;
-
-/// All entries of a case, its effect last.
-fn entries_of(alloc: Global, case: &Case) -> Result<Vec<Entry>, Fail> {
-    let mut all = Vec::new(alloc);
-    'histories: for history in case.after {
-        all.extend_from_slice(entries_in(*history))?;
+impl<'a> Case<'a> {
+    /// The case of a line of a table. A column that says nothing is a dash.
+    fn of(line: &'a str) -> Option<Self> {
+        let (name, rest) = line.split_once(" | ")?;
+        let (after, rest) = rest.split_once(" | ")?;
+        let (then, rest) = rest.split_once(" | ")?;
+        let (effect, fault) = rest.split_once(" | ")?;
+        Some(Case {
+            name,
+            after,
+            then,
+            effect,
+            fault,
+        })
     }
-    all.extend_from_slice(case.then)?;
-    all.push(case.effect)?;
-    Ok(all)
+}
+
+/// All effects of a case, a line each, its own last.
+fn effects_in(alloc: Global, case: &Case<'_>) -> Result<String, Fail> {
+    let mut text = String::new(alloc);
+    if case.after != "-" {
+        push_histories(&mut text, case.after)?;
+    }
+    if case.then != "-" {
+        push_effects(&mut text, case.then)?;
+    }
+    push_line(&mut text, case.effect)?;
+    Ok(text)
 }
 
 /// The first effect with a fault, counted from 0, and that fault.
@@ -109,24 +93,35 @@ fn refused_by(
 }
 
 /// Whether the tracker finds just the fault of the case, and none before it.
-fn holds(rt: &impl Abort, alloc: Global, case: &Case) -> Result<bool, Fail> {
-    let entries = entries_of(alloc, case)?;
-    let fields = spelled(alloc, entries.as_slice())?;
-    let effects = effects_of(alloc, entries.as_slice(), fields.as_slice())?;
+fn holds(rt: &impl Abort, alloc: Global, case: &Case<'_>) -> Result<bool, Fail> {
+    let text = effects_in(alloc, case)?;
+    let fields = spelled(alloc, text.as_str())?;
+    let effects = effects_of(alloc, text.as_str(), fields.as_slice())?;
     let found = first_refused(rt, alloc, effects.as_slice())?;
-    let last = entries.len().saturating_sub(1);
-    Ok(found == case.fault.map(|fault| Broken { at: last, fault }))
+    let last = fields.len().saturating_sub(1);
+    Ok(match found {
+        Some(Broken { at, fault }) => at == last && fault.name() == case.fault,
+        None => case.fault == TAKEN,
+    })
 }
 
-/// Tries all cases, and names those in which the tracker says something else.
-pub fn try_all(rt: &impl Abort, alloc: Global, cases: &[Case]) -> Result<(), Fail> {
+/// Tries all cases of a table, names those in which the tracker says something else, and answers how many there are.
+pub fn try_all(rt: &impl Abort, alloc: Global, table: &str) -> Result<u32, Fail> {
     let mut wrong = String::new(alloc);
-    'cases: for case in cases {
-        if !holds(rt, alloc, case)? {
+    let mut count = 0_u32;
+    'lines: for line in table.lines() {
+        if line.is_empty() {
+            continue;
+        }
+        let Some(case) = Case::of(line) else {
+            return Err(Fail::new("a line is no case"));
+        };
+        if !holds(rt, alloc, &case)? {
             wrong.push_str(case.name)?;
             wrong.push_str("; ")?;
         }
+        count = count.wrapping_add(1);
     }
     assert!(rt; wrong.is_empty(), "not so: {wrong}");
-    Ok(())
+    Ok(count)
 }

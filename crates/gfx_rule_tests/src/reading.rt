@@ -1,35 +1,10 @@
-//! Entries as effects: their fields are spelled, and then read.
+//! Effects of tables as effects: their fields are spelled, and then read.
 
-use crate::entry::{Entry, Name, shape_of};
+use crate::entry::{Kind, Numbers, shape_of};
 use gfx_params::{ParamFault, decode, decode_meta};
 use gfx_types::Effect;
 use std::alloc::Global;
 use std::test::Fail;
-
-/// The first number that is made up.
-const MADE_UP: u64 = 1_000_000;
-
-/// The numbers that are left of an entry, and how many were made up.
-#[derive(Drop)]
-struct Numbers {
-    left: &'static [u64],
-    made: u64,
-}
-
-impl Numbers {
-    fn next(&mut self) -> u64 {
-        match self.left {
-            [number, rest @ ..] => {
-                self.left = rest;
-                *number
-            }
-            [] => {
-                self.made = self.made.wrapping_add(1);
-                MADE_UP.wrapping_add(self.made)
-            }
-        }
-    }
-}
 
 fn put_word(number: u64, out: &mut Vec<u8>) -> Result<(), Fail> {
     let word = (number & 0xffff_ffff) as u32;
@@ -41,9 +16,9 @@ fn put_long(number: u64, out: &mut Vec<u8>) -> Result<(), Fail> {
 }
 
 /// Spells a record of fields of one width each.
-fn put_record(widths: &[u8], numbers: &mut Numbers, out: &mut Vec<u8>) -> Result<(), Fail> {
+fn put_record(widths: &[u8], numbers: &mut Numbers<'_>, out: &mut Vec<u8>) -> Result<(), Fail> {
     'widths: for width in widths {
-        let number = numbers.next();
+        let number = numbers.next()?;
         if *width == b'q' {
             put_long(number, out)?;
         } else {
@@ -54,8 +29,8 @@ fn put_record(widths: &[u8], numbers: &mut Numbers, out: &mut Vec<u8>) -> Result
 }
 
 /// Spells a list of records.
-fn put_list(widths: &[u8], numbers: &mut Numbers, out: &mut Vec<u8>) -> Result<(), Fail> {
-    let count = numbers.next();
+fn put_list(widths: &[u8], numbers: &mut Numbers<'_>, out: &mut Vec<u8>) -> Result<(), Fail> {
+    let count = numbers.next()?;
     put_word(count, out)?;
     'records: for _ in 0..count {
         put_record(widths, numbers, out)?;
@@ -63,17 +38,18 @@ fn put_list(widths: &[u8], numbers: &mut Numbers, out: &mut Vec<u8>) -> Result<(
     Ok(())
 }
 
-fn put_bytes(numbers: &mut Numbers, out: &mut Vec<u8>) -> Result<(), Fail> {
-    let count = numbers.next();
+fn put_bytes(numbers: &mut Numbers<'_>, out: &mut Vec<u8>) -> Result<(), Fail> {
+    let count = numbers.next()?;
     put_long(count, out)?;
     'bytes: for _ in 0..count {
-        out.push((numbers.next() & 0xff) as u8)?;
+        let number = numbers.next()?;
+        out.push((number & 0xff) as u8)?;
     }
     Ok(())
 }
 
-fn put_submits(numbers: &mut Numbers, out: &mut Vec<u8>) -> Result<(), Fail> {
-    let count = numbers.next();
+fn put_submits(numbers: &mut Numbers<'_>, out: &mut Vec<u8>) -> Result<(), Fail> {
+    let count = numbers.next()?;
     put_word(count, out)?;
     'submits: for _ in 0..count {
         put_list(b"q", numbers, out)?;
@@ -83,7 +59,7 @@ fn put_submits(numbers: &mut Numbers, out: &mut Vec<u8>) -> Result<(), Fail> {
     Ok(())
 }
 
-fn put_field(letter: u8, numbers: &mut Numbers, out: &mut Vec<u8>) -> Result<(), Fail> {
+fn put_field(letter: u8, numbers: &mut Numbers<'_>, out: &mut Vec<u8>) -> Result<(), Fail> {
     match letter {
         b'q' => put_record(b"q", numbers, out),
         b'd' => put_record(b"d", numbers, out),
@@ -99,14 +75,12 @@ fn put_field(letter: u8, numbers: &mut Numbers, out: &mut Vec<u8>) -> Result<(),
     }
 }
 
-/// The fields of an entry as a file of minor version 2 spells them.
-pub fn fields_of(alloc: Global, entry: &Entry) -> Result<Vec<u8>, Fail> {
+/// The fields of an effect as a file of minor version 2 spells them.
+pub fn fields_of(alloc: Global, effect: &str) -> Result<Vec<u8>, Fail> {
+    let (_, widths) = shape_of(effect)?;
     let mut out = Vec::new(alloc);
-    let mut numbers = Numbers {
-        left: entry.numbers,
-        made: 0,
-    };
-    'fields: for letter in shape_of(entry.name) {
+    let mut numbers = Numbers::of(effect);
+    'fields: for letter in widths.as_bytes() {
         put_field(*letter, &mut numbers, &mut out)?;
     }
     Ok(out)
@@ -115,47 +89,41 @@ pub fn fields_of(alloc: Global, entry: &Entry) -> Result<Vec<u8>, Fail> {
 fn read<T>(found: Result<T, ParamFault>) -> Result<T, Fail> {
     match found {
         Ok(value) => Ok(value),
-        Err(ParamFault::BadParams) => Err("an entry has no spelling")?,
+        Err(ParamFault::BadParams) => Err("an effect has no spelling")?,
         Err(ParamFault::WantMemory) => Err("no memory")?,
     }
 }
 
-/// The effect of an entry with these fields.
-fn effect_of<'a>(alloc: Global, entry: &Entry, bytes: &'a [u8]) -> Result<Effect<'a>, Fail> {
-    match entry.name {
-        Name::Begin | Name::End => Ok(Effect::Marker {
-            begin: entry.name == Name::Begin,
-            frame: entry.numbers.first().copied().unwrap_or(0),
+/// The effect with these fields.
+fn effect_of<'a>(alloc: Global, effect: &str, bytes: &'a [u8]) -> Result<Effect<'a>, Fail> {
+    match shape_of(effect)?.0 {
+        Kind::Marker { begin } => Ok(Effect::Marker {
+            begin,
+            frame: Numbers::of(effect).next()?,
         }),
-        Name::FillMemory => Ok(Effect::Meta(read(decode_meta(alloc, 2, bytes))?)),
-        Name::InitImage => Ok(Effect::Meta(read(decode_meta(alloc, 3, bytes))?)),
-        Name::SetSwapchainState => Ok(Effect::Meta(read(decode_meta(alloc, 4, bytes))?)),
-        Name::SetSemaphoreState => Ok(Effect::Meta(read(decode_meta(alloc, 5, bytes))?)),
-        name => {
-            let id = u32::from(name as u8) + 1;
-            Ok(Effect::Call(read(decode(alloc, 2, id, bytes))?))
-        }
+        Kind::Meta { id } => Ok(Effect::Meta(read(decode_meta(alloc, id, bytes))?)),
+        Kind::Call { id } => Ok(Effect::Call(read(decode(alloc, 2, id, bytes))?)),
     }
 }
 
-/// The fields of entries, each spelled.
-pub fn spelled(alloc: Global, entries: &[Entry]) -> Result<Vec<Vec<u8>>, Fail> {
+/// The fields of the effects of a text, a line each, spelled.
+pub fn spelled(alloc: Global, text: &str) -> Result<Vec<Vec<u8>>, Fail> {
     let mut all = Vec::new(alloc);
-    'entries: for entry in entries {
-        all.push(fields_of(alloc, entry)?)?;
+    'lines: for line in text.lines() {
+        all.push(fields_of(alloc, line)?)?;
     }
     Ok(all)
 }
 
-/// The effects of entries with these fields.
+/// The effects of a text, with these fields.
 pub fn effects_of<'a>(
     alloc: Global,
-    entries: &[Entry],
+    text: &str,
     fields: &'a [Vec<u8>],
 ) -> Result<Vec<Effect<'a>>, Fail> {
     let mut all = Vec::new(alloc);
-    'entries: for (entry, bytes) in entries.iter().zip(fields.iter()) {
-        all.push(effect_of(alloc, entry, bytes.as_slice())?)?;
+    'lines: for (line, bytes) in text.lines().zip(fields.iter()) {
+        all.push(effect_of(alloc, line, bytes.as_slice())?)?;
     }
     Ok(all)
 }

@@ -1,6 +1,7 @@
 //! What is kept of command buffers, beside values that were worked out by hand.
 
-use crate::entry::Entry;
+use crate::entry::{Kind, shape_of};
+use crate::histories::push_line;
 use crate::reading::{effects_of, fields_of, spelled};
 use crate::runs::DRAWN;
 use gfx_commands::{CbState, Recordings, Totals};
@@ -10,24 +11,40 @@ use std::alloc::Global;
 use std::process::Abort;
 use std::test::Fail;
 
-// The tracker that took the first entries.
-fn tracker_after(alloc: Global, run: &[Entry], count: usize) -> Result<Tracker, Fail> {
-    let fields = spelled(alloc, run)?;
-    let effects = effects_of(alloc, run, fields.as_slice())?;
-    let mut tracker = Tracker::new(alloc);
-    take_all(alloc, &mut tracker, effects.as_slice(), count)?;
-    Ok(tracker)
+/// How many effects of the run were taken, what buffers are then, with their flags, and how much is kept, in commands and bytes.
+type Row = (usize, &'static [(u64, CbState, u32)], (u32, u64));
+
+const ROWS: [Row; 3] = [
+    // both buffers are recorded
+    (
+        39,
+        &[(11, CbState::Executable, 0), (15, CbState::Executable, 1)],
+        (13, 668),
+    ),
+    // the one that was to be submitted once was submitted
+    (
+        41,
+        &[(11, CbState::Executable, 0), (15, CbState::Invalid, 1)],
+        (9, 472),
+    ),
+    // a resource of the other is gone
+    (46, &[(11, CbState::Invalid, 0)], (0, 0)),
+];
+
+// The tracker takes the first effects of the run.
+fn take_first(alloc: Global, tracker: &mut Tracker, count: usize) -> Result<(), Fail> {
+    let mut run = String::new(alloc);
+    'lines: for line in DRAWN.lines().take(count) {
+        push_line(&mut run, line)?;
+    }
+    let fields = spelled(alloc, run.as_str())?;
+    let effects = effects_of(alloc, run.as_str(), fields.as_slice())?;
+    take_all(alloc, tracker, effects.as_slice())
 }
 
-// The tracker takes the first effects.
-fn take_all(
-    alloc: Global,
-    tracker: &mut Tracker,
-    effects: &[Effect<'_>],
-    count: usize,
-) -> Result<(), Fail> {
+fn take_all(alloc: Global, tracker: &mut Tracker, effects: &[Effect<'_>]) -> Result<(), Fail> {
     let mut ops = OpList::of(Vec::new(alloc));
-    'effects: for effect in effects.iter().take(count) {
+    'effects: for effect in effects {
         if tracker.apply(effect, &mut ops).is_err() {
             return Err("an effect is refused".into());
         }
@@ -35,7 +52,7 @@ fn take_all(
     Ok(())
 }
 
-// The commands of a buffer are the entries from one index to another, as they are spelled.
+// The commands of a buffer are the lines of the run from one to another, as they are spelled.
 fn compare_commands(
     rt: &impl Abort,
     alloc: Global,
@@ -45,12 +62,17 @@ fn compare_commands(
     to: usize,
 ) -> Result<(), Fail> {
     let mut place = 0;
-    'entries: for entry in DRAWN.iter().take(to).skip(from) {
-        let fields = fields_of(alloc, entry)?;
-        let id = u32::from(entry.name as u8) + 1;
+    'lines: for line in DRAWN.lines().take(to).skip(from) {
+        let fields = fields_of(alloc, line)?;
+        let (kind, _) = shape_of(line)?;
         match recordings.command(cb, place) {
             Some(command) => {
-                assert_eq!(rt; command.call_id, id);
+                assert_eq!(rt;
+                    Kind::Call {
+                        id: command.call_id
+                    },
+                    kind
+                );
                 assert_eq!(rt; command.params.items(), fields.as_slice());
             }
             None => return Err("a command is missing".into()),
@@ -67,39 +89,43 @@ fn compare_buffer(rt: &impl Abort, recordings: &Recordings, cb: u64, state: CbSt
     assert_eq!(rt; recordings.flags(cb), flags);
 }
 
-// So many commands are kept, with so many bytes.
-fn compare_totals(rt: &impl Abort, recordings: &Recordings, commands: u32, bytes: u64) {
-    assert_eq!(rt; recordings.totals(), Totals { commands, bytes });
-}
-
 // Both buffers have their commands, whatever became of them.
 fn compare_both(rt: &impl Abort, alloc: Global, recordings: &Recordings) -> Result<(), Fail> {
     compare_commands(rt, alloc, recordings, 11, 23, 32)?;
     compare_commands(rt, alloc, recordings, 15, 34, 38)
 }
 
-#[test]
-fn both_buffers_are_kept_with_their_commands(rt: HostRuntime) -> Result<(), Fail> {
-    let tracker = tracker_after(rt.alloc(), &DRAWN, 39)?;
-    compare_buffer(&rt, tracker.recordings(), 11, CbState::Executable, 0);
-    compare_buffer(&rt, tracker.recordings(), 15, CbState::Executable, 1);
-    compare_totals(&rt, tracker.recordings(), 13, 668);
-    compare_both(&rt, rt.alloc(), tracker.recordings())
+fn compare_row(
+    rt: &impl Abort,
+    alloc: Global,
+    recordings: &Recordings,
+    row: &Row,
+) -> Result<(), Fail> {
+    let (_, buffers, (commands, bytes)) = *row;
+    'buffers: for &(cb, state, flags) in buffers {
+        compare_buffer(rt, recordings, cb, state, flags);
+    }
+    assert_eq!(rt; recordings.totals(), Totals { commands, bytes });
+    compare_both(rt, alloc, recordings)
+}
+
+fn try_with(rt: &impl Abort, alloc: Global, tracker: &mut Tracker, row: &Row) -> Result<(), Fail> {
+    take_first(alloc, tracker, row.0)?;
+    compare_row(rt, alloc, tracker.recordings(), row)
+}
+
+// The tracker is owned where there is one way out, since letting go of it takes long to prove.
+fn try_row(rt: &impl Abort, alloc: Global, row: &Row) -> Result<(), Fail> {
+    let mut tracker = Tracker::new(alloc);
+    try_with(rt, alloc, &mut tracker, row)
 }
 
 #[test]
-fn a_buffer_that_was_submitted_once_is_invalid(rt: HostRuntime) -> Result<(), Fail> {
-    let tracker = tracker_after(rt.alloc(), &DRAWN, 41)?;
-    compare_buffer(&rt, tracker.recordings(), 11, CbState::Executable, 0);
-    compare_buffer(&rt, tracker.recordings(), 15, CbState::Invalid, 1);
-    compare_totals(&rt, tracker.recordings(), 9, 472);
-    compare_both(&rt, rt.alloc(), tracker.recordings())
-}
-
-#[test]
-fn a_buffer_whose_resource_is_gone_is_invalid(rt: HostRuntime) -> Result<(), Fail> {
-    let tracker = tracker_after(rt.alloc(), &DRAWN, 46)?;
-    compare_buffer(&rt, tracker.recordings(), 11, CbState::Invalid, 0);
-    compare_totals(&rt, tracker.recordings(), 0, 0);
-    compare_both(&rt, rt.alloc(), tracker.recordings())
+fn buffers_are_kept_with_their_commands_until_they_are_invalid(
+    rt: HostRuntime,
+) -> Result<(), Fail> {
+    for row in &ROWS {
+        try_row(&rt, rt.alloc(), row)?;
+    }
+    Ok(())
 }

@@ -1,227 +1,223 @@
-//! Captures as entries, none of which has a fault.
-
-use crate::case::entries;
-use crate::entry::{Entry, Name};
-use crate::histories::{SHOWN, WHOLE};
+//! Captures, an effect a line, none of which has a fault.
 
 /// The smallest capture that shows a frame of three bytes.
-pub static SMALL: [Entry; 22] = entries! {
-    CreateInstance(1, 4_194_304);
-    CreateHeadlessSurfaceEXT(1, 2);
-    CreateDevice(1, 3);
-    GetDeviceQueue(3, 4);
-    CreateSwapchainKHR(3, 5, 2, 1, 13, 3, 1, 3);
-    GetSwapchainImagesKHR(3, 5, 1, 6);
-    CreateFence(3, 20, 0);
-    AllocateMemory(3, 8, 64);
-    MapMemory(3, 8, 0, WHOLE);
-    FillMemory(8, 0, 3, 97, 98, 99);
-    CreateBuffer(3, 9, 16, 1);
-    BindBufferMemory(3, 9, 8, 0);
-    CreateCommandPool(3, 10, 2);
-    AllocateCommandBuffers(3, 10, 1, 11);
-    BeginCommandBuffer(11, 0);
-    CmdPipelineBarrier(11, 1, 6, 0, 7);
-    CmdCopyBufferToImage(11, 9, 6, 7, 1, 0, 0, 0, 0, 0, 3, 1);
-    CmdPipelineBarrier(11, 1, 6, 7, SHOWN);
-    EndCommandBuffer(11);
-    AcquireNextImageKHR(3, 5, 0, 20, 0, 0);
-    QueueSubmit(4, 1, 0, 1, 11, 0, 0);
-    QueuePresentKHR(4, 0, 1, 5, 0);
-};
+pub const SMALL: &str = "\
+CreateInstance(1, 4194304)
+CreateHeadlessSurfaceEXT(1, 2)
+CreateDevice(1, 3)
+GetDeviceQueue(3, 4)
+CreateSwapchainKHR(3, 5, 2, 1, 13, 3, 1, 3)
+GetSwapchainImagesKHR(3, 5, 1, 6)
+CreateFence(3, 20, 0)
+AllocateMemory(3, 8, 64)
+MapMemory(3, 8, 0, WHOLE)
+FillMemory(8, 0, 3, 97, 98, 99)
+CreateBuffer(3, 9, 16, 1)
+BindBufferMemory(3, 9, 8, 0)
+CreateCommandPool(3, 10, 2)
+AllocateCommandBuffers(3, 10, 1, 11)
+BeginCommandBuffer(11, 0)
+CmdPipelineBarrier(11, 1, 6, 0, 7)
+CmdCopyBufferToImage(11, 9, 6, 7, 1, 0, 0, 0, 0, 0, 3, 1)
+CmdPipelineBarrier(11, 1, 6, 7, SHOWN)
+EndCommandBuffer(11)
+AcquireNextImageKHR(3, 5, 0, 20, 0, 0)
+QueueSubmit(4, 1, 0, 1, 11, 0, 0)
+QueuePresentKHR(4, 0, 1, 5, 0)
+";
 
 /// Every command: two buffers, of which 15 is to be submitted once, over texels of four bytes, with regions of several rows.
-pub static DRAWN: [Entry; 46] = entries! {
-    CreateInstance(1, 0);
-    CreateHeadlessSurfaceEXT(1, 2);
-    CreateDevice(1, 3);
-    GetDeviceQueue(3, 4);
-    CreateSwapchainKHR(3, 5, 2, 2, 98, 4, 4, 3);
-    GetSwapchainImagesKHR(3, 5, 2, 6, 7);
-    CreateFence(3, 20, 0);
-    CreateSemaphore(3, 30);
-    AllocateMemory(3, 8, 512);
-    MapMemory(3, 8, 0, WHOLE);
-    FillMemory(8, 4, 8, 1, 2, 3, 4, 5, 6, 7, 8);
-    UnmapMemory(3, 8);
-    CreateBuffer(3, 9, 128, 3);
-    BindBufferMemory(3, 9, 8, 0);
-    CreateBuffer(3, 19, 64, 3);
-    BindBufferMemory(3, 19, 8, 192);
-    CreateImage(3, 12, 98, 4, 4, 3);
-    BindImageMemory(3, 12, 8, 256);
-    CreateImage(3, 22, 98, 4, 4, 3);
-    BindImageMemory(3, 22, 8, 320);
-    CreateCommandPool(3, 10, 2);
-    AllocateCommandBuffers(3, 10, 2, 15, 11);
-    BeginCommandBuffer(11, 0);
-    CmdFillBuffer(11, 9, 4, 8, 77);
-    CmdFillBuffer(11, 19, 0, WHOLE, 305_419_896);
-    CmdUpdateBuffer(11, 9, 12, 4, 9, 8, 7, 6);
-    CmdCopyBuffer(11, 9, 19, 2, 0, 32, 16, 16, 0, 8);
-    CmdPipelineBarrier(11, 2, 12, 0, 7, 22, 0, 1);
-    CmdCopyBufferToImage(11, 9, 12, 7, 2, 0, 5, 3, 1, 1, 2, 3, 96, 0, 0, 0, 0, 4, 1);
-    CmdClearColorImage(11, 22, 1, 1, 2, 3, 4);
-    CmdPipelineBarrier(11, 1, 12, 7, 6);
-    CmdCopyImage(11, 12, 6, 22, 1, 2, 0, 0, 1, 1, 3, 2, 0, 0, 0, 0, 4, 1);
-    EndCommandBuffer(11);
-    BeginCommandBuffer(15, 1);
-    CmdPipelineBarrier(15, 2, 6, 0, 7, 22, 1, 6);
-    CmdCopyImage(15, 22, 6, 6, 7, 1, 0, 0, 0, 0, 4, 4);
-    CmdCopyImageToBuffer(15, 22, 6, 9, 1, 64, 4, 4, 0, 0, 2, 4);
-    CmdPipelineBarrier(15, 1, 6, 7, SHOWN);
-    EndCommandBuffer(15);
-    AcquireNextImageKHR(3, 5, 30, 0, 0, 0);
-    QueueSubmit(4, 2, 1, 30, 1, 11, 0, 0, 1, 15, 1, 30, 20);
-    WaitForFences(3, 1, 20, 1, 0);
-    QueuePresentKHR(4, 1, 30, 1, 5, 0);
-    QueueSubmit(4, 1, 0, 1, 11, 0, 0);
-    ResetFences(3, 1, 20);
-    DestroyBuffer(3, 19);
-};
+pub const DRAWN: &str = "\
+CreateInstance(1, 0)
+CreateHeadlessSurfaceEXT(1, 2)
+CreateDevice(1, 3)
+GetDeviceQueue(3, 4)
+CreateSwapchainKHR(3, 5, 2, 2, 98, 4, 4, 3)
+GetSwapchainImagesKHR(3, 5, 2, 6, 7)
+CreateFence(3, 20, 0)
+CreateSemaphore(3, 30)
+AllocateMemory(3, 8, 512)
+MapMemory(3, 8, 0, WHOLE)
+FillMemory(8, 4, 8, 1, 2, 3, 4, 5, 6, 7, 8)
+UnmapMemory(3, 8)
+CreateBuffer(3, 9, 128, 3)
+BindBufferMemory(3, 9, 8, 0)
+CreateBuffer(3, 19, 64, 3)
+BindBufferMemory(3, 19, 8, 192)
+CreateImage(3, 12, 98, 4, 4, 3)
+BindImageMemory(3, 12, 8, 256)
+CreateImage(3, 22, 98, 4, 4, 3)
+BindImageMemory(3, 22, 8, 320)
+CreateCommandPool(3, 10, 2)
+AllocateCommandBuffers(3, 10, 2, 15, 11)
+BeginCommandBuffer(11, 0)
+CmdFillBuffer(11, 9, 4, 8, 77)
+CmdFillBuffer(11, 19, 0, WHOLE, 305419896)
+CmdUpdateBuffer(11, 9, 12, 4, 9, 8, 7, 6)
+CmdCopyBuffer(11, 9, 19, 2, 0, 32, 16, 16, 0, 8)
+CmdPipelineBarrier(11, 2, 12, 0, 7, 22, 0, 1)
+CmdCopyBufferToImage(11, 9, 12, 7, 2, 0, 5, 3, 1, 1, 2, 3, 96, 0, 0, 0, 0, 4, 1)
+CmdClearColorImage(11, 22, 1, 1, 2, 3, 4)
+CmdPipelineBarrier(11, 1, 12, 7, 6)
+CmdCopyImage(11, 12, 6, 22, 1, 2, 0, 0, 1, 1, 3, 2, 0, 0, 0, 0, 4, 1)
+EndCommandBuffer(11)
+BeginCommandBuffer(15, 1)
+CmdPipelineBarrier(15, 2, 6, 0, 7, 22, 1, 6)
+CmdCopyImage(15, 22, 6, 6, 7, 1, 0, 0, 0, 0, 4, 4)
+CmdCopyImageToBuffer(15, 22, 6, 9, 1, 64, 4, 4, 0, 0, 2, 4)
+CmdPipelineBarrier(15, 1, 6, 7, SHOWN)
+EndCommandBuffer(15)
+AcquireNextImageKHR(3, 5, 30, 0, 0, 0)
+QueueSubmit(4, 2, 1, 30, 1, 11, 0, 0, 1, 15, 1, 30, 20)
+WaitForFences(3, 1, 20, 1, 0)
+QueuePresentKHR(4, 1, 30, 1, 5, 0)
+QueueSubmit(4, 1, 0, 1, 11, 0, 0)
+ResetFences(3, 1, 20)
+DestroyBuffer(3, 19)
+";
 
 /// Command buffers of two pools, whose resources and memories go.
-pub static LIVES: [Entry; 53] = entries! {
-    CreateInstance(1, 0);
-    CreateHeadlessSurfaceEXT(1, 2);
-    CreateDevice(1, 3);
-    GetDeviceQueue(3, 4);
-    AllocateMemory(3, 8, 256);
-    AllocateMemory(3, 18, 64);
-    CreateBuffer(3, 9, 64, 3);
-    BindBufferMemory(3, 9, 8, 0);
-    CreateBuffer(3, 19, 64, 3);
-    BindBufferMemory(3, 19, 18, 0);
-    CreateImage(3, 12, 13, 4, 4, 3);
-    BindImageMemory(3, 12, 8, 128);
-    CreateCommandPool(3, 10, 0);
-    AllocateCommandBuffers(3, 10, 3, 15, 11, 14);
-    CreateCommandPool(3, 16, 2);
-    AllocateCommandBuffers(3, 16, 2, 27, 17);
-    BeginCommandBuffer(11, 1);
-    CmdFillBuffer(11, 9, 0, 4, 1);
-    EndCommandBuffer(11);
-    BeginCommandBuffer(15, 0);
-    CmdFillBuffer(15, 19, 0, 8, 2);
-    EndCommandBuffer(15);
-    BeginCommandBuffer(14, 4);
-    CmdPipelineBarrier(14, 1, 12, 0, 7);
-    EndCommandBuffer(14);
-    BeginCommandBuffer(17, 5);
-    CmdCopyBuffer(17, 9, 19, 1, 0, 0, 4);
-    EndCommandBuffer(17);
-    BeginCommandBuffer(27, 0);
-    CmdFillBuffer(27, 9, 0, 4, 3);
-    QueueSubmit(4, 1, 0, 3, 11, 14, 17, 0, 0);
-    FreeMemory(3, 18);
-    DestroyBuffer(3, 19);
-    BeginCommandBuffer(17, 0);
-    ResetCommandBuffer(27);
-    CmdFillBuffer(17, 9, 0, 4, 4);
-    EndCommandBuffer(17);
-    DestroyImage(3, 12);
-    ResetCommandPool(3, 10);
-    BeginCommandBuffer(11, 0);
-    EndCommandBuffer(11);
-    BeginCommandBuffer(27, 0);
-    CmdUpdateBuffer(27, 9, 4, 4, 1, 2, 3, 4);
-    FreeCommandBuffers(3, 10, 2, 15, 11);
-    FreeMemory(3, 8);
-    BeginCommandBuffer(27, 0);
-    EndCommandBuffer(27);
-    DestroyCommandPool(3, 16);
-    DestroyBuffer(3, 9);
-    DestroyCommandPool(3, 10);
-    DestroyDevice(3);
-    DestroySurfaceKHR(1, 2);
-    DestroyInstance(1);
-};
+pub const LIVES: &str = "\
+CreateInstance(1, 0)
+CreateHeadlessSurfaceEXT(1, 2)
+CreateDevice(1, 3)
+GetDeviceQueue(3, 4)
+AllocateMemory(3, 8, 256)
+AllocateMemory(3, 18, 64)
+CreateBuffer(3, 9, 64, 3)
+BindBufferMemory(3, 9, 8, 0)
+CreateBuffer(3, 19, 64, 3)
+BindBufferMemory(3, 19, 18, 0)
+CreateImage(3, 12, 13, 4, 4, 3)
+BindImageMemory(3, 12, 8, 128)
+CreateCommandPool(3, 10, 0)
+AllocateCommandBuffers(3, 10, 3, 15, 11, 14)
+CreateCommandPool(3, 16, 2)
+AllocateCommandBuffers(3, 16, 2, 27, 17)
+BeginCommandBuffer(11, 1)
+CmdFillBuffer(11, 9, 0, 4, 1)
+EndCommandBuffer(11)
+BeginCommandBuffer(15, 0)
+CmdFillBuffer(15, 19, 0, 8, 2)
+EndCommandBuffer(15)
+BeginCommandBuffer(14, 4)
+CmdPipelineBarrier(14, 1, 12, 0, 7)
+EndCommandBuffer(14)
+BeginCommandBuffer(17, 5)
+CmdCopyBuffer(17, 9, 19, 1, 0, 0, 4)
+EndCommandBuffer(17)
+BeginCommandBuffer(27, 0)
+CmdFillBuffer(27, 9, 0, 4, 3)
+QueueSubmit(4, 1, 0, 3, 11, 14, 17, 0, 0)
+FreeMemory(3, 18)
+DestroyBuffer(3, 19)
+BeginCommandBuffer(17, 0)
+ResetCommandBuffer(27)
+CmdFillBuffer(17, 9, 0, 4, 4)
+EndCommandBuffer(17)
+DestroyImage(3, 12)
+ResetCommandPool(3, 10)
+BeginCommandBuffer(11, 0)
+EndCommandBuffer(11)
+BeginCommandBuffer(27, 0)
+CmdUpdateBuffer(27, 9, 4, 4, 1, 2, 3, 4)
+FreeCommandBuffers(3, 10, 2, 15, 11)
+FreeMemory(3, 8)
+BeginCommandBuffer(27, 0)
+EndCommandBuffer(27)
+DestroyCommandPool(3, 16)
+DestroyBuffer(3, 9)
+DestroyCommandPool(3, 10)
+DestroyDevice(3)
+DestroySurfaceKHR(1, 2)
+DestroyInstance(1)
+";
 
 /// Two swapchains, one after the other, with fences and semaphores that come and go.
-pub static PRESENTED: [Entry; 44] = entries! {
-    CreateInstance(1, 0);
-    CreateHeadlessSurfaceEXT(1, 2);
-    CreateDevice(1, 3);
-    GetDeviceQueue(3, 4);
-    CreateSwapchainKHR(3, 5, 2, 2, 13, 4, 4, 3);
-    GetSwapchainImagesKHR(3, 5, 2, 7, 6);
-    CreateFence(3, 21, 1);
-    CreateFence(3, 20, 0);
-    CreateSemaphore(3, 31);
-    CreateSemaphore(3, 30);
-    CreateCommandPool(3, 10, 2);
-    AllocateCommandBuffers(3, 10, 1, 11);
-    BeginCommandBuffer(11, 0);
-    CmdPipelineBarrier(11, 2, 6, 0, SHOWN, 7, 0, SHOWN);
-    EndCommandBuffer(11);
-    QueueSubmit(4, 1, 0, 1, 11, 1, 31, 0);
-    AcquireNextImageKHR(3, 5, 30, 20, 0, 0);
-    WaitForFences(3, 2, 20, 21, 1, 0);
-    ResetFences(3, 2, 20, 21);
-    AcquireNextImageKHR(3, 5, 0, 20, 1, 0);
-    AcquireNextImageKHR(3, 5, 0, 21, 0, 1);
-    GetFenceStatus(3, 21, 1);
-    GetFenceStatus(3, 20, 0);
-    QueuePresentKHR(4, 2, 30, 31, 1, 5, 1);
-    QueuePresentKHR(4, 0, 1, 5, 0);
-    AcquireNextImageKHR(3, 5, 0, 21, 1, 0);
-    WaitForFences(3, 2, 20, 21, 0, 0);
-    QueueWaitIdle(4);
-    DeviceWaitIdle(3);
-    GetSwapchainImagesKHR(3, 5, 2, 7, 6);
-    DestroySemaphore(3, 30);
-    DestroyFence(3, 20);
-    ResetFences(3, 1, 21);
-    DestroySwapchainKHR(3, 5);
-    CreateSwapchainKHR(3, 55, 2, 1, 13, 4, 4, 3);
-    AcquireNextImageKHR(3, 55, 31, 21, 0, 0);
-    GetSwapchainImagesKHR(3, 55, 1, 56);
-    ResetCommandBuffer(11);
-    BeginCommandBuffer(11, 1);
-    CmdPipelineBarrier(11, 1, 56, 0, SHOWN);
-    EndCommandBuffer(11);
-    QueueSubmit(4, 1, 1, 31, 1, 11, 0, 0);
-    QueuePresentKHR(4, 0, 1, 55, 0);
-    QueueWaitIdle(4);
-};
+pub const PRESENTED: &str = "\
+CreateInstance(1, 0)
+CreateHeadlessSurfaceEXT(1, 2)
+CreateDevice(1, 3)
+GetDeviceQueue(3, 4)
+CreateSwapchainKHR(3, 5, 2, 2, 13, 4, 4, 3)
+GetSwapchainImagesKHR(3, 5, 2, 7, 6)
+CreateFence(3, 21, 1)
+CreateFence(3, 20, 0)
+CreateSemaphore(3, 31)
+CreateSemaphore(3, 30)
+CreateCommandPool(3, 10, 2)
+AllocateCommandBuffers(3, 10, 1, 11)
+BeginCommandBuffer(11, 0)
+CmdPipelineBarrier(11, 2, 6, 0, SHOWN, 7, 0, SHOWN)
+EndCommandBuffer(11)
+QueueSubmit(4, 1, 0, 1, 11, 1, 31, 0)
+AcquireNextImageKHR(3, 5, 30, 20, 0, 0)
+WaitForFences(3, 2, 20, 21, 1, 0)
+ResetFences(3, 2, 20, 21)
+AcquireNextImageKHR(3, 5, 0, 20, 1, 0)
+AcquireNextImageKHR(3, 5, 0, 21, 0, 1)
+GetFenceStatus(3, 21, 1)
+GetFenceStatus(3, 20, 0)
+QueuePresentKHR(4, 2, 30, 31, 1, 5, 1)
+QueuePresentKHR(4, 0, 1, 5, 0)
+AcquireNextImageKHR(3, 5, 0, 21, 1, 0)
+WaitForFences(3, 2, 20, 21, 0, 0)
+QueueWaitIdle(4)
+DeviceWaitIdle(3)
+GetSwapchainImagesKHR(3, 5, 2, 7, 6)
+DestroySemaphore(3, 30)
+DestroyFence(3, 20)
+ResetFences(3, 1, 21)
+DestroySwapchainKHR(3, 5)
+CreateSwapchainKHR(3, 55, 2, 1, 13, 4, 4, 3)
+AcquireNextImageKHR(3, 55, 31, 21, 0, 0)
+GetSwapchainImagesKHR(3, 55, 1, 56)
+ResetCommandBuffer(11)
+BeginCommandBuffer(11, 1)
+CmdPipelineBarrier(11, 1, 56, 0, SHOWN)
+EndCommandBuffer(11)
+QueueSubmit(4, 1, 1, 31, 1, 11, 0, 0)
+QueuePresentKHR(4, 0, 1, 55, 0)
+QueueWaitIdle(4)
+";
 
 /// A section before frame 7, and a frame behind it.
-pub static BEGUN: [Entry; 37] = entries! {
-    Begin(7);
-    CreateInstance(1, 0);
-    CreateHeadlessSurfaceEXT(1, 2);
-    CreateDevice(1, 3);
-    GetDeviceQueue(3, 4);
-    AllocateMemory(3, 8, 256);
-    FillMemory(8, 250, 4, 1, 2, 3, 4);
-    MapMemory(3, 8, 16, 64);
-    CreateBuffer(3, 9, 64, 3);
-    BindBufferMemory(3, 9, 8, 0);
-    CreateImage(3, 12, 13, 4, 4, 3);
-    BindImageMemory(3, 12, 8, 128);
-    InitImage(12, 7, 0);
-    CreateSwapchainKHR(3, 5, 2, 2, 13, 4, 4, 3);
-    GetSwapchainImagesKHR(3, 5, 2, 6, 7);
-    InitImage(7, SHOWN, 16, 1, 2, 3, 4, 5, 6, 7, 8, 9, 10, 11, 12, 13, 14, 15, 16);
-    InitImage(6, 0, 16);
-    SetSwapchainState(5, 2, 0, 1);
-    CreateFence(3, 20, 1);
-    CreateSemaphore(3, 30);
-    CreateSemaphore(3, 31);
-    SetSemaphoreState(30, 1);
-    SetSemaphoreState(31, 0);
-    CreateCommandPool(3, 10, 2);
-    AllocateCommandBuffers(3, 10, 1, 11);
-    BeginCommandBuffer(11, 0);
-    CmdClearColorImage(11, 12, 7, 200, 0, 0, 0);
-    EndCommandBuffer(11);
-    End(7);
-    FillMemory(8, 16, 2, 5, 6);
-    UnmapMemory(3, 8);
-    QueueSubmit(4, 1, 1, 30, 1, 11, 1, 31, 0);
-    QueuePresentKHR(4, 1, 31, 1, 5, 1);
-    ResetFences(3, 1, 20);
-    AcquireNextImageKHR(3, 5, 31, 20, 0, 0);
-    DestroyImage(3, 12);
-    DestroySwapchainKHR(3, 5);
-};
+pub const BEGUN: &str = "\
+Begin(7)
+CreateInstance(1, 0)
+CreateHeadlessSurfaceEXT(1, 2)
+CreateDevice(1, 3)
+GetDeviceQueue(3, 4)
+AllocateMemory(3, 8, 256)
+FillMemory(8, 250, 4, 1, 2, 3, 4)
+MapMemory(3, 8, 16, 64)
+CreateBuffer(3, 9, 64, 3)
+BindBufferMemory(3, 9, 8, 0)
+CreateImage(3, 12, 13, 4, 4, 3)
+BindImageMemory(3, 12, 8, 128)
+InitImage(12, 7, 0)
+CreateSwapchainKHR(3, 5, 2, 2, 13, 4, 4, 3)
+GetSwapchainImagesKHR(3, 5, 2, 6, 7)
+InitImage(7, SHOWN, 16, 1, 2, 3, 4, 5, 6, 7, 8, 9, 10, 11, 12, 13, 14, 15, 16)
+InitImage(6, 0, 16)
+SetSwapchainState(5, 2, 0, 1)
+CreateFence(3, 20, 1)
+CreateSemaphore(3, 30)
+CreateSemaphore(3, 31)
+SetSemaphoreState(30, 1)
+SetSemaphoreState(31, 0)
+CreateCommandPool(3, 10, 2)
+AllocateCommandBuffers(3, 10, 1, 11)
+BeginCommandBuffer(11, 0)
+CmdClearColorImage(11, 12, 7, 200, 0, 0, 0)
+EndCommandBuffer(11)
+End(7)
+FillMemory(8, 16, 2, 5, 6)
+UnmapMemory(3, 8)
+QueueSubmit(4, 1, 1, 30, 1, 11, 1, 31, 0)
+QueuePresentKHR(4, 1, 31, 1, 5, 1)
+ResetFences(3, 1, 20)
+AcquireNextImageKHR(3, 5, 31, 20, 0, 0)
+DestroyImage(3, 12)
+DestroySwapchainKHR(3, 5)
+";

@@ -41,9 +41,46 @@ impl Case {
         outside.run(alloc)
     }
 
-    /// Whether it ended as if no call had failed.
-    fn is_whole(&self, ended: &Ended) -> bool {
-        ended.status == 0 && ended.notes.is_empty() && ended.text == self.cut
+    /// It ended as if no call had failed.
+    fn assert_whole(&self, rt: &impl Abort, ended: &Ended) {
+        assert!(rt; ended.text == self.cut);
+        assert!(rt; ended.notes.is_empty());
+    }
+
+    /// A write failed behind a front of the cut.
+    fn assert_front(&self, rt: &impl Abort, ended: &Ended) {
+        assert_eq!(rt; (ended.status, ended.notes.len()), (6, 0));
+        assert!(rt; self.cut.starts_with(&ended.text));
+        assert!(rt; ended.text.len() < self.cut.len());
+    }
+
+    /// A read failed, and the blocks before it were written. Answers whether none failed, and all was written.
+    fn was_read(&self, rt: &impl Abort, ended: &Ended, number: u64) -> bool {
+        if ended.status == 0 {
+            self.assert_whole(rt, ended);
+            return true;
+        }
+        assert_eq!(rt;
+            (ended.status, ended.notes.as_slice()),
+            (5, b"read fault\n".as_slice())
+        );
+        let given = self.file.len().saturating_sub(ended.left);
+        assert_eq!(rt;
+            ended.text.as_slice(),
+            self.written_before(given),
+            "at read {number}"
+        );
+        false
+    }
+
+    /// A write failed behind a front of the cut. Answers whether none failed, and all was written.
+    fn was_written(&self, rt: &impl Abort, ended: &Ended) -> bool {
+        if ended.status == 0 {
+            self.assert_whole(rt, ended);
+            return true;
+        }
+        self.assert_front(rt, ended);
+        false
     }
 
     /// What is written where reading stopped behind so many bytes: all up to the last block of the frame that is whole in them.
@@ -62,19 +99,7 @@ fn is_past_the_reads(
     number: u64,
 ) -> Result<bool, Fail> {
     let ended = case.run(rt.alloc(), 7, &[number], &[])?;
-    if ended.status == 0 {
-        assert!(rt; case.is_whole(&ended), "at read {number}");
-        return Ok(true);
-    }
-    assert_eq!(rt; ended.status, 5, "at read {number}");
-    assert_eq!(rt; ended.notes.as_slice(), b"read fault\n".as_slice());
-    let given = case.file.len().saturating_sub(ended.left);
-    assert_eq!(rt;
-        ended.text.as_slice(),
-        case.written_before(given),
-        "at read {number}"
-    );
-    Ok(false)
+    Ok(case.was_read(rt, &ended, number))
 }
 
 /// Fails the write with this number, and answers whether there is none.
@@ -84,21 +109,7 @@ fn is_past_the_writes(
     number: u64,
 ) -> Result<bool, Fail> {
     let ended = case.run(rt.alloc(), 5, &[], &[number])?;
-    if ended.status == 0 {
-        assert!(rt; case.is_whole(&ended), "at write {number}");
-        return Ok(true);
-    }
-    assert_front(rt, case, &ended)?;
-    Ok(false)
-}
-
-/// A write failed behind a front of the cut.
-fn assert_front(rt: &(impl Abort + AllocGlobal), case: &Case, ended: &Ended) -> Result<(), Fail> {
-    assert_eq!(rt; ended.status, 6);
-    assert!(rt; ended.notes.is_empty());
-    assert!(rt; case.cut.starts_with(&ended.text));
-    assert!(rt; ended.text.len() < case.cut.len());
-    Ok(())
+    Ok(case.was_written(rt, &ended))
 }
 
 #[test]
@@ -133,7 +144,7 @@ fn a_failed_write_leaves_a_front_of_the_cut(rt: HostRuntime) -> Result<(), Fail>
 fn a_call_of_many_bytes_may_fail_too(rt: HostRuntime) -> Result<(), Fail> {
     let case = Case::new(rt.alloc())?;
     let unwritten = case.run(rt.alloc(), 100, &[], &[3])?;
-    assert_front(&rt, &case, &unwritten)?;
+    case.assert_front(&rt, &unwritten);
     let unread = case.run(rt.alloc(), 100, &[2], &[])?;
     assert_eq!(rt; unread.status, 5);
     assert_eq!(rt; unread.notes.as_slice(), b"read fault\n".as_slice());

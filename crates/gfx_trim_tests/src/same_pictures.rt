@@ -64,21 +64,22 @@ fn assert_all(rt: &(impl Abort + AllocGlobal), file: &[u8], frames: u32) -> Resu
 #[test]
 fn a_cut_shows_what_the_whole_shows(rt: HostRuntime) -> Result<(), Fail> {
     let alloc = rt.alloc();
-    for (file, frames) in [
-        (file_of(alloc, 1, &ONE_TEXEL)?, 1),
-        (file_of(alloc, 2, &TWO_IMAGES)?, 1),
-        (one_frame(alloc)?, 1),
-        (three_frames(alloc)?, 3),
-        (variants::crossing(alloc)?, 3),
-        (variants::freed(alloc)?, 3),
-        (variants::bound_late(alloc)?, 3),
-        (variants::signalled(alloc)?, 3),
-        (variants::sized(alloc, 134_217_728)?, 3),
-        (variants::sized(alloc, 268_435_453)?, 3),
-        (variants::filled_twice(alloc)?, 3),
-    ] {
-        assert_all(&rt, &file, frames)?;
-    }
+    assert_all(&rt, &file_of(alloc, 1, &ONE_TEXEL)?, 1)?;
+    assert_all(&rt, &file_of(alloc, 2, &TWO_IMAGES)?, 1)?;
+    assert_all(&rt, &one_frame(alloc)?, 1)?;
+    assert_all(&rt, &three_frames(alloc)?, 3)?;
+    assert_all(&rt, &variants::crossing(alloc)?, 3)?;
+    assert_all(&rt, &variants::freed(alloc)?, 3)?;
+    assert_all(&rt, &variants::bound_late(alloc)?, 3)?;
+    assert_all(&rt, &variants::signalled(alloc)?, 3)?;
+    assert_all(&rt, &variants::sized(alloc, 134_217_728)?, 3)?;
+    assert_all(&rt, &variants::sized(alloc, 268_435_453)?, 3)?;
+    assert_all(&rt, &variants::filled_twice(alloc)?, 3)
+}
+
+#[test]
+fn a_cut_shows_what_commands_drew(rt: HostRuntime) -> Result<(), Fail> {
+    let alloc = rt.alloc();
     for mut made in all(alloc)? {
         made.show()?;
         made.show_again()?;

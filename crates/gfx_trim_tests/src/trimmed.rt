@@ -1,6 +1,6 @@
 //! Ranges that `trim` cuts out of the file of three frames.
 
-use gfx_outside::{Outside, trim};
+use gfx_outside::{Ended, Outside, trim};
 use gfx_samples::cuts::{cut_file, first_cut, later_cut};
 use gfx_samples::files::{
     NEXT_FRAME, ONE_FRAME, THREE_SHOWN, TWO_IMAGES, append, file_of, one_frame, three_frames,
@@ -14,21 +14,31 @@ const NOTHING_THERE: &[u8] = b"no such frame: the file has 1 to 3\n";
 /// An annotation of three bytes, which is skipped.
 const SKIPPED: &str = "030000000000000005000000646566";
 
+/// How a cut ended, and how many bytes it left.
+fn assert_end(
+    rt: &impl Abort,
+    range: &str,
+    ended: &Ended,
+    (status, cut, notes): (u8, &[u8], &[u8]),
+    left: usize,
+) {
+    assert_eq!(rt; ended.notes.as_slice(), notes, "of {range}");
+    assert_eq!(rt; ended.text.as_slice(), cut, "of {range}");
+    assert_eq!(rt; (ended.status, ended.left), (status, left), "of {range}");
+}
+
 /// Cuts a range out of a file, in any cutting, and compares how it ends and how many bytes it leaves.
 fn assert_ends<'a>(
     rt: &(impl Abort + AllocGlobal),
     range: &'a str,
     file: &'a [u8],
-    (status, cut, notes): (u8, &[u8], &[u8]),
+    end: (u8, &[u8], &[u8]),
     left: usize,
 ) -> Result<(), Fail> {
     let words = ["trim", range];
     for most in [1, 7, 4096] {
         let ended = Outside::of(&words, file).at_most(most).run(rt.alloc())?;
-        assert_eq!(rt; ended.notes.as_slice(), notes, "of {range}");
-        assert_eq!(rt; ended.text.as_slice(), cut, "of {range}");
-        assert_eq!(rt; ended.status, status, "of {range}");
-        assert_eq!(rt; ended.left, left, "of {range}");
+        assert_end(rt, range, &ended, end, left);
     }
     Ok(())
 }

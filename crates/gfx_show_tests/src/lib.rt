@@ -1,6 +1,9 @@
-//! Tests of whole runs of `replay` over files in memory: what it writes, what it notes and its status.
+//! Tests of whole runs over files in memory that show frames: what `replay` writes, what it notes and its status, and that
+//! those of `digests` end as those of `replay`.
 #![tactic(auto)]
 
+#[cfg(test)]
+mod digests;
 #[cfg(test)]
 mod failing;
 #[cfg(test)]

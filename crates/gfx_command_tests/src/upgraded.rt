@@ -1,10 +1,11 @@
 //! Files of both minor versions, whole, with options, damaged, and where reads and writes fail.
 
-use gfx_outside::Outside;
+use gfx_outside::{Ended, Outside};
 use gfx_samples::files::{
     NEXT_FRAME, ONE_FRAME, TWO_IMAGES, append, file_of, one_frame, three_frames, with_bytes,
 };
 use std::alloc::Global;
+use std::process::Abort;
 use std::test::Fail;
 
 const WORDS: &[&str] = &["upgrade"];
@@ -39,7 +40,11 @@ fn presents_alone_are_spelled_anew(rt: HostRuntime) -> Result<(), Fail> {
     Outside::of(WORDS, &three_frames(rt.alloc())?).ends(rt.alloc(), 0, &file, b"")?;
     Outside::replay(&file).ends(rt.alloc(), 0, SHOWN, b"")?;
     // A file of version 2 stays.
-    Outside::of(WORDS, &file).ends(rt.alloc(), 0, &file, b"")?;
+    Outside::of(WORDS, &file).ends(rt.alloc(), 0, &file, b"")
+}
+
+#[test]
+fn other_blocks_stay(rt: HostRuntime) -> Result<(), Fail> {
     let images = file_of(rt.alloc(), 2, &TWO_IMAGES)?;
     Outside::of(WORDS, &images).ends(rt.alloc(), 0, &images, b"")?;
     // So does a block that is skipped.
@@ -68,8 +73,12 @@ fn what_stands_before_a_bad_block_is_written(rt: HostRuntime) -> Result<(), Fail
     let line = b"bad block 30 at 1523: 5 Truncated\n";
     let mut wanted = upgraded(rt.alloc())?;
     wanted.truncate(1531);
-    Outside::of(WORDS, &file).ends(rt.alloc(), 3, &wanted, line)?;
-    // A rule is not looked at: the first call again.
+    Outside::of(WORDS, &file).ends(rt.alloc(), 3, &wanted, line)
+}
+
+#[test]
+fn rules_are_not_looked_at(rt: HostRuntime) -> Result<(), Fail> {
+    // The first call again.
     let mut file = one_frame(rt.alloc())?;
     append(rt.alloc(), &ONE_FRAME[..1], &mut file)?;
     let mut wanted = file_of(rt.alloc(), 2, &ONE_FRAME[..21])?;
@@ -83,31 +92,38 @@ fn nothing_is_written_of_a_bad_header(rt: HostRuntime) -> Result<(), Fail> {
     Outside::of(WORDS, &file).ends(rt.alloc(), 3, b"", b"bad block 0 at 0: 2 BadVersion\n")
 }
 
+/// The call with this status failed behind a front of the file.
+fn assert_front(rt: &impl Abort, ended: &Ended, status: u8, whole: &[u8]) {
+    assert_eq!(rt; ended.status, status);
+    assert!(rt; whole.starts_with(&ended.text));
+}
+
 #[test]
-fn each_read_and_each_write_may_fail(rt: HostRuntime) -> Result<(), Fail> {
+fn each_read_may_fail(rt: HostRuntime) -> Result<(), Fail> {
     let file = one_frame(rt.alloc())?;
-    let wanted = Outside::of(WORDS, &file).run(rt.alloc())?.text;
+    let whole = Outside::of(WORDS, &file).run(rt.alloc())?.text;
     for call in 1..=46 {
-        let calls = [call];
         let read = Outside {
-            failing_reads: &calls,
+            failing_reads: &[call],
             ..Outside::of(WORDS, &file)
         };
-        let ended = read.run(rt.alloc())?;
-        assert_eq!(rt; ended.status, 5);
-        assert!(rt; wanted.starts_with(&ended.text));
+        assert_front(&rt, &read.run(rt.alloc())?, 5, &whole);
     }
+    Ok(())
+}
+
+#[test]
+fn each_write_may_fail(rt: HostRuntime) -> Result<(), Fail> {
+    let file = one_frame(rt.alloc())?;
+    let whole = Outside::of(WORDS, &file).run(rt.alloc())?.text;
     // The write of each ten bytes may fail.
-    for call in 1..=(wanted.len() as u64).div_ceil(10) {
-        let calls = [call];
+    for call in 1..=(whole.len() as u64).div_ceil(10) {
         let write = Outside {
-            failing_writes: &calls,
+            failing_writes: &[call],
             most: 10,
             ..Outside::of(WORDS, &file)
         };
-        let ended = write.run(rt.alloc())?;
-        assert_eq!(rt; ended.status, 6);
-        assert!(rt; wanted.starts_with(&ended.text));
+        assert_front(&rt, &write.run(rt.alloc())?, 6, &whole);
     }
     Ok(())
 }
@@ -125,15 +141,12 @@ fn blocks_longer_than_what_is_held_back_stay(rt: HostRuntime) -> Result<(), Fail
     Outside::of(WORDS, &file).ends(rt.alloc(), 0, &file, b"")?;
     // Pieces of 65,536 bytes are written, two of them at once, and then the rest.
     for call in 1..=6 {
-        let calls = [call];
         let write = Outside {
-            failing_writes: &calls,
+            failing_writes: &[call],
             most: file.len(),
             ..Outside::of(WORDS, &file)
         };
-        let ended = write.run(rt.alloc())?;
-        assert_eq!(rt; ended.status, 6);
-        assert!(rt; file.starts_with(&ended.text));
+        assert_front(&rt, &write.run(rt.alloc())?, 6, &file);
     }
     Ok(())
 }

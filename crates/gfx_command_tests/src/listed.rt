@@ -1,10 +1,11 @@
 //! Files that are listed, and listings of which the files are made again.
 
 use crate::frame::{FRAME, NEXT};
-use gfx_outside::Outside;
+use gfx_outside::{Ended, Outside};
 use gfx_samples::cuts::{BEGIN, STATES};
 use gfx_samples::files::{TWO_IMAGES, append, file_of, one_frame, three_frames};
 use std::alloc::Global;
+use std::process::Abort;
 use std::test::Fail;
 
 const LIST: &[&str] = &["list"];
@@ -96,32 +97,39 @@ fn lines_before_a_bad_block_are_written(rt: HostRuntime) -> Result<(), Fail> {
     Outside::of(LIST, b"GFXR").ends(rt.alloc(), 3, b"", b"bad block 0 at 0: 5 Truncated\n")
 }
 
+/// A call with this status failed behind a front of the output, or there is no such call.
+fn assert_front(rt: &impl Abort, ended: &Ended, status: u8, output: &[u8]) {
+    assert!(rt; ended.status == status || ended.status == 0);
+    assert!(rt; output.starts_with(&ended.text));
+}
+
+/// Fails the read with this number, and then the write.
+fn fail_call<'a>(
+    rt: &(impl Abort + AllocGlobal),
+    whole: Outside<'a>,
+    output: &[u8],
+    call: u64,
+) -> Result<(), Fail> {
+    let calls = [call];
+    let read = Outside {
+        failing_reads: &calls,
+        ..whole
+    };
+    assert_front(rt, &read.run(rt.alloc())?, 5, output);
+    let write = Outside {
+        failing_writes: &calls,
+        ..whole
+    };
+    assert_front(rt, &write.run(rt.alloc())?, 6, output);
+    Ok(())
+}
+
 #[test]
 fn each_read_and_each_write_may_fail(rt: HostRuntime) -> Result<(), Fail> {
     let file = one_frame(rt.alloc())?;
-    for (words, input, output) in [
-        (LIST, file.as_slice(), FRAME),
-        (UNLIST, FRAME, file.as_slice()),
-    ] {
-        for call in 1..40 {
-            let calls = [call];
-            let read = Outside {
-                failing_reads: &calls,
-                most: 50,
-                ..Outside::of(words, input)
-            };
-            let ended = read.run(rt.alloc())?;
-            assert!(rt; ended.status == 5 || ended.status == 0);
-            assert!(rt; output.starts_with(&ended.text));
-            let write = Outside {
-                failing_writes: &calls,
-                most: 50,
-                ..Outside::of(words, input)
-            };
-            let ended = write.run(rt.alloc())?;
-            assert!(rt; ended.status == 6 || ended.status == 0);
-            assert!(rt; output.starts_with(&ended.text));
-        }
+    for call in 1..40 {
+        fail_call(&rt, Outside::of(LIST, &file).at_most(50), FRAME, call)?;
+        fail_call(&rt, Outside::of(UNLIST, FRAME).at_most(50), &file, call)?;
     }
     Ok(())
 }

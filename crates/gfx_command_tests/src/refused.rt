@@ -1,9 +1,10 @@
 //! Texts that are no listings, each with the number of its first bad line.
 
 use crate::frame::FRAME;
-use gfx_outside::Outside;
+use gfx_outside::{Ended, Outside};
 use gfx_samples::files::{file_of, one_frame};
 use std::alloc::Global;
+use std::process::Abort;
 use std::test::Fail;
 
 const LIST: &[&str] = &["list"];
@@ -78,22 +79,47 @@ fn note(alloc: Global, line: usize) -> Result<String, Fail> {
     Ok(format!(in alloc; "bad listing line {line}\n")?)
 }
 
+/// The text has its first bad line here.
+fn assert_bad(rt: &(impl Abort + AllocGlobal), ended: &Ended, line: usize) -> Result<(), Fail> {
+    let line = note(rt.alloc(), line)?;
+    assert_eq!(rt; ended.status, 11);
+    assert!(rt; ended.notes.as_slice() == line.as_bytes());
+    Ok(())
+}
+
+/// A front of the text is a listing where it ends behind a line, and else its last line is bad.
+fn assert_cut(
+    rt: &(impl Abort + AllocGlobal),
+    file: &[u8],
+    text: &[u8],
+    ended: &Ended,
+) -> Result<(), Fail> {
+    assert!(rt; file.starts_with(&ended.text));
+    if text.ends_with(b"\n") {
+        assert_eq!(rt; ended.status, 0);
+        return Ok(());
+    }
+    assert_bad(rt, ended, lines_before(text, text.len()).saturating_add(1))
+}
+
 #[test]
 fn a_cut_text_is_a_listing_only_behind_a_line(rt: HostRuntime) -> Result<(), Fail> {
     let file = one_frame(rt.alloc())?;
     for length in 0..FRAME.len() {
         let text = &FRAME[..length];
         let ended = Outside::of(UNLIST, text).run(rt.alloc())?;
-        assert!(rt; file.starts_with(&ended.text));
-        if text.ends_with(b"\n") {
-            assert_eq!(rt; ended.status, 0);
-        } else {
-            assert_eq!(rt; ended.status, 11);
-            let line = note(rt.alloc(), lines_before(text, length).saturating_add(1))?;
-            assert!(rt; ended.notes.as_slice() == line.as_bytes());
-        }
+        assert_cut(&rt, &file, text, &ended)?;
     }
     Ok(())
+}
+
+/// The text with one byte changed is the listing of another file, or the line of that byte is bad.
+fn assert_changed(rt: &(impl Abort + AllocGlobal), text: &[u8], at: usize) -> Result<(), Fail> {
+    let ended = Outside::of(UNLIST, text).run(rt.alloc())?;
+    if ended.status == 0 {
+        return Outside::of(LIST, &ended.text).ends(rt.alloc(), 0, text, b"");
+    }
+    assert_bad(rt, &ended, lines_before(FRAME, at).saturating_add(1))
 }
 
 #[test]
@@ -103,14 +129,7 @@ fn a_changed_byte_is_a_bad_line_or_another_file(rt: HostRuntime) -> Result<(), F
         let Some(byte) = text.get_mut(at) else { break };
         let old = *byte;
         *byte = old ^ 1;
-        let ended = Outside::of(UNLIST, &text).run(rt.alloc())?;
-        if ended.status == 0 {
-            Outside::of(LIST, &ended.text).ends(rt.alloc(), 0, &text, b"")?;
-        } else {
-            assert_eq!(rt; ended.status, 11);
-            let line = note(rt.alloc(), lines_before(FRAME, at).saturating_add(1))?;
-            assert!(rt; ended.notes.as_slice() == line.as_bytes());
-        }
+        assert_changed(&rt, &text, at)?;
         if let Some(byte) = text.get_mut(at) {
             *byte = old;
         }

@@ -1,9 +1,46 @@
 //! Reads and writes of which one fails, each in turn.
 
-use gfx_outside::Outside;
+use gfx_outside::{Ended, Outside};
 use gfx_samples::files::{THREE_SHOWN, shown_before, three_frames};
 use std::process::Abort;
 use std::test::Fail;
+
+/// A read failed, and what was shown before the block at which reading stopped is there, the first one that isn't whole in
+/// what was given. Answers whether no read failed, and all is there.
+fn was_read(rt: &impl Abort, length: usize, ended: &Ended, number: u64) -> bool {
+    if ended.status == 0 {
+        assert_all_shown(rt, ended);
+        return true;
+    }
+    assert_eq!(rt;
+        (ended.status, ended.notes.as_slice()),
+        (5, b"read fault\n".as_slice())
+    );
+    let given = length.saturating_sub(ended.left);
+    assert_eq!(rt;
+        ended.text.as_slice(),
+        shown_before(given),
+        "at read {number}"
+    );
+    false
+}
+
+/// A write failed behind a front of the text. Answers whether none failed, and all is there.
+fn was_written(rt: &impl Abort, ended: &Ended, number: u64) -> bool {
+    if ended.status == 0 {
+        assert_all_shown(rt, ended);
+        return true;
+    }
+    assert_eq!(rt; (ended.status, ended.notes.len()), (6, 0));
+    assert!(rt; THREE_SHOWN.starts_with(&ended.text), "at write {number}");
+    assert!(rt; ended.text.len() < THREE_SHOWN.len());
+    false
+}
+
+fn assert_all_shown(rt: &impl Abort, ended: &Ended) {
+    assert_eq!(rt; ended.text.as_slice(), THREE_SHOWN);
+    assert!(rt; ended.notes.is_empty());
+}
 
 /// Replays the file of three frames where the read with this number fails, and answers whether there is none.
 fn is_past_the_reads(
@@ -16,22 +53,7 @@ fn is_past_the_reads(
         ..Outside::replay(file).at_most(7)
     };
     let ended = outside.run(rt.alloc())?;
-    if ended.status == 0 {
-        assert_eq!(rt; ended.text.as_slice(), THREE_SHOWN, "at read {number}");
-        assert!(rt; ended.notes.is_empty(), "at read {number}");
-        return Ok(true);
-    }
-    assert_eq!(rt; ended.status, 5, "at read {number}");
-    assert_eq!(rt; ended.notes.as_slice(), b"read fault\n".as_slice());
-
-    // The block at which reading stopped is the first one that isn't whole in what was given.
-    let given = file.len().saturating_sub(ended.left);
-    assert_eq!(rt;
-        ended.text.as_slice(),
-        shown_before(given),
-        "at read {number}"
-    );
-    Ok(false)
+    Ok(was_read(rt, file.len(), &ended, number))
 }
 
 /// Replays the file of three frames where the write with this number fails, and answers whether there is none.
@@ -45,15 +67,7 @@ fn is_past_the_writes(
         ..Outside::replay(file).at_most(5)
     };
     let ended = outside.run(rt.alloc())?;
-    assert!(rt; ended.notes.is_empty(), "at write {number}");
-    if ended.status == 0 {
-        assert_eq!(rt; ended.text.as_slice(), THREE_SHOWN, "at write {number}");
-        return Ok(true);
-    }
-    assert_eq!(rt; ended.status, 6, "at write {number}");
-    assert!(rt; THREE_SHOWN.starts_with(&ended.text), "at write {number}");
-    assert!(rt; ended.text.len() < THREE_SHOWN.len(), "at write {number}");
-    Ok(false)
+    Ok(was_written(rt, &ended, number))
 }
 
 #[test]
