@@ -1,5 +1,5 @@
 -- How a command ends, by what was read and written.
-use Rattle.std.proofs.Common.{◌≡◌, inl, inr, ℕ, List, [], ◌++◌, flat_map, append_assoc, Option, Some, None, Result, Ok, Err, Bool, refl, sym, ap, subst, ◌∙◌}
+use Rattle.std.proofs.Common.{◌≡◌, ◌⊎◌, inl, inr, ℕ, List, [], ◌++◌, flat_map, append_assoc, Option, Some, None, Result, Ok, Err, Bool, refl, sym, ap, subst, ◌∙◌}
 use Rattle.std.specs.Prelude.{OnOk, IfErr}
 use Rattle.gfx_io.specs.Told.{IfTold}
 use Rattle.std.specs.Io.KnownBytes.{Appends}
@@ -34,11 +34,38 @@ use Rattle.gfx_listing_law.proofs.Readable.{all_of, fronts, listings_unlisted, s
 use Rattle.gfx_cli.specs.declared.counts.Counts.{Counts}
 use Rattle.gfx_cli.specs.declared.stop.Stop.{Stop}
 use Rattle.gfx_cli.specs.declared.stop.Stop.TheVariants.{WantMemory, BadFile, NoSuchFrame, ReadFault, WriteFault, BadListing}
-use Rattle.gfx_cli.specs.Commands.{IsGood, Leaves, Writes, asked_by, text_before}
+use Rattle.gfx_cli.specs.Commands.{AsksForFrames, IsGood, Leaves, Reads, ReadsCapture, Writes, asked_by, text_before}
 use Rattle.gfx_cli.specs.Counts.{CountsAll}
 use Rattle.gfx_cli.specs.Ends.{Ends, IsCutOff, IsDone, Stops, WritesPart}
-use Rattle.gfx_cli.specs.Stop.{of_decoder, of_play, of_unlist, IsUnwritten, MayStop}
+use Rattle.gfx_cli.specs.Run.{MayStop}
+use Rattle.gfx_cli.specs.Stop.{of_decoder, of_play, of_unlist, IsUnwritten}
 use Rattle.gfx_cli.specs.Text.{at_clean, info_text}
+
+-- ---- why a walk through a file stops
+
+-- a command that reads capture files may stop for each fault of a walk, for a frame that isn't there where it asks for frames
+pub walk_may : (c : Command) (why : PlayFault) → Reads c → ReadsCapture c → AsksForFrames c ⊎ rewrite.AsksForNone why → MayStop c (of_play why)
+walk_may c (play.Bad fault block offset) reads captures asks = captures
+walk_may c (play.NoSuchFrame first last) reads captures (inl asks) = asks
+walk_may c (play.NoSuchFrame first last) reads captures (inr none) = absurd none
+walk_may c play.ReadFault reads captures asks = reads
+walk_may c play.SinkFault reads captures asks = tt
+walk_may c play.WantMemory reads captures asks = tt
+
+-- a read or a write that failed is one of the walk
+pub read_of : (why : PlayFault) → of_play why ≡ ReadFault → why ≡ play.ReadFault
+read_of (play.Bad fault block offset) is = absurd cc
+read_of (play.NoSuchFrame first last) is = absurd cc
+read_of play.ReadFault is = refl
+read_of play.SinkFault is = absurd cc
+read_of play.WantMemory is = absurd cc
+
+pub sink_of : (why : PlayFault) → of_play why ≡ WriteFault → why ≡ play.SinkFault
+sink_of (play.Bad fault block offset) is = absurd cc
+sink_of (play.NoSuchFrame first last) is = absurd cc
+sink_of play.ReadFault is = absurd cc
+sink_of play.SinkFault is = refl
+sink_of play.WantMemory is = absurd cc
 
 -- ---- `info`
 
@@ -56,12 +83,6 @@ info_fails taken decoder.ReadFault all rest (fed, is) =
       front = inl (appends_none taken);
     }
 info_fails taken decoder.WantMemory all rest end = inl (appends_none taken)
-
--- which it may do
-pub info_may : (why : DecodeFault) → MayStop Info (of_decoder why)
-info_may (decoder.Bad fault block offset) = tt
-info_may decoder.ReadFault = tt
-info_may decoder.WantMemory = tt
 
 -- the lines that were written are those of the file's counts
 counted_text : (counts : Counts) (all rest : List ℕ) → CountsAll (Ok counts) all rest → count_lines counts.minor counts.blocks counts.calls counts.frames ≡ info_text all
@@ -84,19 +105,12 @@ replay_fails (play.Bad fault block offset) pixels frames before after all rest i
 replay_fails (play.NoSuchFrame first last) pixels frames before after all rest is =
     (record { range = is.range; end = is.end; unseen = is.unseen; first_is = is.first_is; last_is = is.last_is }, is.text, is.read)
 replay_fails play.ReadFault pixels frames before after all rest is = record { reads = tt; read = is.given; parts = is.parts; going = (is.cut, is.lawful, is.unseen); text = is.text; front = inr is.front }
-replay_fails play.SinkFault pixels frames before after all rest is = inr is
+replay_fails play.SinkFault pixels frames before after all rest is = is
 replay_fails play.WantMemory pixels frames before after all rest is = inr is
 
 pub replay_done : (pixels : Bool) (frames : Option FrameRange) (before after : Option (List ℕ)) (all rest : List ℕ)
     → Answers (asked_by frames) pixels before after (Ok tt) all rest → IsDone (Replay pixels frames) before after all rest
 replay_done pixels frames before after all rest is = record { good = is.0.complete; leaves = is.1; text = is.0.text }
-
-pub replay_may : (why : PlayFault) (pixels : Bool) (frames : Option FrameRange) → MayStop (Replay pixels frames) (of_play why)
-replay_may (play.Bad fault block offset) pixels frames = tt
-replay_may (play.NoSuchFrame first last) pixels frames = tt
-replay_may play.ReadFault pixels frames = tt
-replay_may play.SinkFault pixels frames = tt
-replay_may play.WantMemory pixels frames = tt
 
 -- ---- `trim`
 
@@ -105,7 +119,7 @@ pub trim_fails : (why : PlayFault) (r : FrameRange) (before after : Option (List
 trim_fails (play.Bad wrong block offset) r before after all rest is = ((is.end, is.outside), is.file)
 trim_fails (play.NoSuchFrame first last) r before after all rest is = (record { end = is.end; outside = is.outside; first_is = is.low_is; last_is = is.high_is }, is.file, is.read)
 trim_fails play.ReadFault r before after all rest is = record { reads = tt; read = is.given; parts = is.parts; going = (is.cut, is.lawful, is.outside); text = is.file; front = inr is.front }
-trim_fails play.SinkFault r before after all rest is = inr is
+trim_fails play.SinkFault r before after all rest is = is
 trim_fails play.WantMemory r before after all rest is = inr is
 
 pub trim_done : (r : FrameRange) (before after : Option (List ℕ)) (all rest : List ℕ) → trim.Answers r.first r.last before after (Ok tt) all rest → IsDone (Trim r) before after all rest
@@ -118,8 +132,8 @@ none_taken : (before after : Option (List ℕ)) → after ≡ before → Appends
 none_taken before after same = subst (λ a. Appends before a []) (sym same) (appends_none before)
 
 -- a front of a lean file
-lean_part : (r : FrameRange) (before after : Option (List ℕ)) (all : List ℕ) → lean.IsPart r.first r.last before after all → WritesPart (Lean r) before after all
-lean_part r before after all is = inr (is.out, is.took, is.lean)
+lean_part : (r : FrameRange) (before after : Option (List ℕ)) (all : List ℕ) → lean.IsPart r.first r.last before after all → Writes (Lean r) (AppendsPart before after) all
+lean_part r before after all is = (is.out, is.took, is.lean)
 
 pub lean_fails : (why : PlayFault) (r : FrameRange) (before after : Option (List ℕ)) (all rest : List ℕ)
     → lean.Answers r.first r.last before after (Err why) all rest → Stops (Lean r) before after (of_play why) all rest
@@ -131,7 +145,7 @@ lean_fails play.ReadFault r before after all rest is =
     record { reads = tt; read = is.given; parts = is.parts; going = (is.cut, is.lawful, is.outside); text = none; front = inl none }
 lean_fails play.SinkFault r before after all rest is = lean_part r before after all is
 lean_fails play.WantMemory r before after all rest (inl none) = inl (none_taken before after none)
-lean_fails play.WantMemory r before after all rest (inr is) = lean_part r before after all is
+lean_fails play.WantMemory r before after all rest (inr is) = inr (lean_part r before after all is)
 
 pub lean_done : (r : FrameRange) (before after : Option (List ℕ)) (all rest : List ℕ) → lean.Answers r.first r.last before after (Ok tt) all rest → IsDone (Lean r) before after all rest
 lean_done r before after all rest is = record { good = is.inside; leaves = is.behind; text = (is.out, is.took, is.lean) }
@@ -142,18 +156,11 @@ pub upgrade_fails : (why : PlayFault) (before after : Option (List ℕ)) (all re
 upgrade_fails (play.Bad fault block offset) before after all rest is = (is.end, is.text)
 upgrade_fails (play.NoSuchFrame first last) before after all rest is = absurd is
 upgrade_fails play.ReadFault before after all rest is = record { reads = tt; read = is.given; parts = is.parts; going = is.cut; text = is.text; front = inr is.front }
-upgrade_fails play.SinkFault before after all rest is = inr is
+upgrade_fails play.SinkFault before after all rest is = is
 upgrade_fails play.WantMemory before after all rest is = inr is
 
 pub upgrade_done : (before after : Option (List ℕ)) (all rest : List ℕ) → upgrade.Answers before after (Ok tt) all rest → IsDone Upgrade before after all rest
 upgrade_done before after all rest is = record { good = is.clean_end; leaves = is.read; text = is.text }
-
-pub upgrade_may : (why : PlayFault) → rewrite.AsksForNone why → MayStop Upgrade (of_play why)
-upgrade_may (play.Bad fault block offset) asks = tt
-upgrade_may (play.NoSuchFrame first last) asks = absurd asks
-upgrade_may play.ReadFault asks = tt
-upgrade_may play.SinkFault asks = tt
-upgrade_may play.WantMemory asks = tt
 
 -- ---- `list`
 
@@ -161,18 +168,11 @@ pub list_fails : (why : PlayFault) (before after : Option (List ℕ)) (all rest 
 list_fails (play.Bad fault block offset) before after all rest is = (is.end, is.text)
 list_fails (play.NoSuchFrame first last) before after all rest is = absurd is
 list_fails play.ReadFault before after all rest is = record { reads = tt; read = is.given; parts = is.parts; going = is.cut; text = is.text; front = inr is.front }
-list_fails play.SinkFault before after all rest is = inr is
+list_fails play.SinkFault before after all rest is = is
 list_fails play.WantMemory before after all rest is = inr is
 
 pub list_done : (before after : Option (List ℕ)) (all rest : List ℕ) → list.Answers before after (Ok tt) all rest → IsDone Lists before after all rest
 list_done before after all rest is = record { good = is.clean_end; leaves = is.read; text = is.text }
-
-pub list_may : (why : PlayFault) → rewrite.AsksForNone why → MayStop Lists (of_play why)
-list_may (play.Bad fault block offset) asks = tt
-list_may (play.NoSuchFrame first last) asks = absurd asks
-list_may play.ReadFault asks = tt
-list_may play.SinkFault asks = tt
-list_may play.WantMemory asks = tt
 
 -- ---- `unlist`
 
@@ -199,7 +199,7 @@ unlist_fails (fault.BadListing number) before after all rest is =
     let bad = is.bad in
     (bad, subst (Appends before after) (sym (all_of bad.lines bad.rest all bad.begins (stops_of bad.lines bad.rest bad.stops))) is.file)
 unlist_fails fault.ReadFault before after all rest is = unlist_cut before after all rest is
-unlist_fails fault.SinkFault before after all rest is = inr (unlist_part before after is.lines is.rest all is.begins is.part)
+unlist_fails fault.SinkFault before after all rest is = unlist_part before after is.lines is.rest all is.begins is.part
 unlist_fails fault.WantMemory before after all rest is = inr (unlist_part before after is.lines is.rest all is.begins is.part)
 
 pub unlist_done : (before after : Option (List ℕ)) (all rest : List ℕ) → unlist.Unlists before after (Ok tt) all rest → IsDone Unlists before after all rest
@@ -212,6 +212,18 @@ unlist_may fault.ReadFault = tt
 unlist_may fault.SinkFault = tt
 unlist_may fault.WantMemory = tt
 
+pub unlist_read : (why : UnlistFault) → of_unlist why ≡ ReadFault → why ≡ fault.ReadFault
+unlist_read (fault.BadListing number) is = absurd cc
+unlist_read fault.ReadFault is = refl
+unlist_read fault.SinkFault is = absurd cc
+unlist_read fault.WantMemory is = absurd cc
+
+pub unlist_sink : (why : UnlistFault) → of_unlist why ≡ WriteFault → why ≡ fault.SinkFault
+unlist_sink (fault.BadListing number) is = absurd cc
+unlist_sink fault.ReadFault is = absurd cc
+unlist_sink fault.SinkFault is = refl
+unlist_sink fault.WantMemory is = absurd cc
+
 -- ---- a text that needs no file
 
 pub text_ends : (c : Command) (before after : Option (List ℕ)) (r : Result Unit Stop) (text bytes : List ℕ) → IsGood c bytes → Leaves c bytes bytes
@@ -221,19 +233,9 @@ text_ends c before after (Ok done) text bytes good leaves is whole part why = re
 text_ends c before after (Err (BadFile fault block offset)) text bytes good leaves is whole part why = absurd why
 text_ends c before after (Err (NoSuchFrame first last)) text bytes good leaves is whole part why = absurd why
 text_ends c before after (Err ReadFault) text bytes good leaves is whole part why = absurd why
-text_ends c before after (Err WriteFault) text bytes good leaves is whole part why = inr (is (AppendsPart before after) part)
+text_ends c before after (Err WriteFault) text bytes good leaves is whole part why = is (AppendsPart before after) part
 text_ends c before after (Err WantMemory) text bytes good leaves is whole part why = inr (is (AppendsPart before after) part)
 text_ends c before after (Err (BadListing line)) text bytes good leaves is whole part why = absurd why
-
--- it may stop so
-pub text_may : (c : Command) (r : Result Unit Stop) → IfErr r IsUnwritten → IfErr r (MayStop c)
-text_may c (Ok done) why = tt
-text_may c (Err (BadFile fault block offset)) why = absurd why
-text_may c (Err (NoSuchFrame first last)) why = absurd why
-text_may c (Err ReadFault) why = absurd why
-text_may c (Err WriteFault) why = tt
-text_may c (Err WantMemory) why = tt
-text_may c (Err (BadListing line)) why = absurd why
 
 pub told_same : (a : Option (List ℕ)) (P : List ℕ → List ℕ → Type 0) → ((x : List ℕ) → P x x) → IfTold a a P
 told_same None P each = tt
@@ -275,6 +277,6 @@ front_of c before after (Ok done) all rest is = inr (all_first c before after al
 front_of c before after (Err (BadFile fault block offset)) all rest is = text_first c before after all is.1
 front_of c before after (Err (NoSuchFrame first last)) all rest is = text_first c before after all is.1
 front_of c before after (Err ReadFault) all rest is = is.front
-front_of c before after (Err WriteFault) all rest is = is
+front_of c before after (Err WriteFault) all rest is = inr is
 front_of c before after (Err WantMemory) all rest is = is
 front_of c before after (Err (BadListing line)) all rest is = text_first c before after all is.1

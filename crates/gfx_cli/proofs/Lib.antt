@@ -7,5 +7,7 @@ pub mod Recorded
 pub mod CaptureEnds
 pub mod CaptureTelling
 pub mod Choosing
+pub mod Keeping
 pub mod Promising
+pub mod Capturing
 pub mod Fanning

@@ -1,5 +1,5 @@
 -- What is promised of the words of a command follows from how the command ended, and from what was told of it.
-use Rattle.std.proofs.Common.{◌≡◌, ◌⊎◌, inl, inr, ◌≤◌, ℕ, List, Option, Result, Ok, Err, ap, refl, subst, sym, arith}
+use Rattle.std.proofs.Common.{◌≡◌, ◌⊎◌, inl, inr, ◌≤◌, ℕ, List, Option, Result, Ok, Err, ap, refl, subst, sym, ◌∙◌, arith}
 use Rattle.std.specs.Prelude.{IfSome}
 use Rattle.std.specs.Io.KnownBytes.{Appends}
 use Rattle.gfx_io.specs.Pieces.{AppendsPart}
@@ -7,7 +7,7 @@ use Rattle.gfx_io.specs.Told.{IfTold, IsTold}
 use Rattle.gfx_decode.proofs.Told.{told_if}
 use Rattle.gfx_words.specs.declared.command.Command.{Command}
 use Rattle.gfx_words.specs.declared.command.Command.TheVariants.{Trim, Lean, Upgrade, List as Lists, Unlist as Unlists}
-use Rattle.gfx_cli.specs.CommandPromise.{KeepsCommand}
+use Rattle.gfx_cli.specs.CommandPromise.{KeepsCommand, Shows}
 use Rattle.gfx_cli.specs.Commands.{IsBad, IsBadLine, IsGood, LacksFrame, Reads}
 use Rattle.gfx_cli.specs.Ends.{Ends, EndsAlone, IsDone, Stops}
 use Rattle.gfx_cli.specs.FilesPromise.{KeepsFiles}
@@ -22,6 +22,7 @@ use Rattle.gfx_cli.specs.declared.stop.Stop.{Stop}
 use Rattle.gfx_cli.specs.declared.stop.Stop.TheVariants as stop
 use Rattle.gfx_cli.proofs.Deciding.{bad_stops, good_not_bad, good_not_bad_line, good_not_lacking, good_stops, lack_stops, line_stops, told_at}
 use Rattle.gfx_cli.proofs.Ending.{front_of}
+use Rattle.gfx_cli.proofs.Keeping.{untouched}
 use Rattle.gfx_cli.proofs.Telling.{IsToldBy, bad_told, by_cause, ends_so, lack_told, listing_told, read_told, status_tells, stop_is_built, stop_status, text_wants, told_exactly}
 
 -- the words name this command and no other
@@ -36,10 +37,6 @@ pub record IsTellingOf {N : Type 0} (why : Stop) (notes : Seen N) (result : Stat
   pub no_memory : result ≡ status.WantMemory → notes.now ≡ notes.before
   pub silent : why ≡ stop.WantMemory → result ≡ status.WantMemory
   pub later : notes.faults_before ≤ notes.faults_now
-
--- notes that nobody wrote to
-abbrev pub untouched : {N : Type 0} → N → Option (List ℕ) → ℕ → Seen N
-untouched it bytes faults = record { before = it; now = it; bytes_before = bytes; bytes_now = bytes; faults_before = faults; faults_now = faults }
 
 -- the words name a command, and it ended so
 runs : {S K : Type 0} (words : List (List ℕ)) (c : Command) (source : Seen S) (sink : Seen K) (end : Result Unit Stop) → AreOf words c → KeepsCommand c source sink end
@@ -67,6 +64,12 @@ alone_as : {S K : Type 0} (c other : Command) (source : Seen S) (sink : Seen K) 
     → EndsAlone other sink.bytes_before sink.bytes_now end
 alone_as c other source sink end same kept = subst (λ k. ¬ Reads k → EndsAlone k sink.bytes_before sink.bytes_now end) (sym same) kept.alone
 
+-- what the file means that it left, by another name
+shows_as : {S K : Type 0} (c other : Command) (source : Seen S) (sink : Seen K) → other ≡ c → KeepsCommand c source sink (Ok tt)
+    → IfTold source.bytes_before source.bytes_now (λ bytes left. Shows other sink.bytes_before sink.bytes_now bytes left)
+shows_as c other source sink same kept =
+    subst (λ k. IfTold source.bytes_before source.bytes_now (λ bytes left. Shows k sink.bytes_before sink.bytes_now bytes left)) (sym same) kept.shows
+
 -- ---- the three ends of a run
 
 -- words of no command, and the usage line or a front of it
@@ -74,67 +77,41 @@ pub refused : {S K N : Type 0} (words : List (List ℕ)) (source : S) (read : Op
     → IsOutside words → ((result ≡ status.Usage) × Appends notes.bytes_before notes.bytes_now usage_line) ⊎ ((result ≡ status.WriteFault) × Failed notes)
     → AppendsPart notes.bytes_before notes.bytes_now usage_line → notes.faults_before ≤ notes.faults_now
     → KeepsFiles words (untouched source read reads) (untouched sink taken writes) notes result
-refused words source read reads sink taken writes notes result outside ends front later = by ends
+refused words source read reads sink taken writes notes result outside ends front later =
+    record {
+      statuses = elim ends [ inl is ↦ rw is.0 tt | inr is ↦ rw is.0 tt ];
+      usage = λ e. (outside, elim ends [ inl is ↦ is.1 | inr is ↦ absurd (let f : status.WriteFault ≡ status.Usage = sym is.0 ∙ e in cc) ]);
+      refused = λ none. (elim ends [ inl is ↦ inl is.0 | inr is ↦ inr is.0 ], refl, refl);
+      unread = λ c named. wrong c named;
+      alone = λ c named. wrong c named;
+      may = λ c named. wrong c named;
+      done = λ e. other e (λ f. absurd cc) (λ f. absurd cc);
+      keeps = λ e. other e (λ f. absurd cc) (λ f. absurd cc);
+      leans = λ e. other e (λ f. absurd cc) (λ f. absurd cc);
+      same = λ e. other e (λ f. absurd cc) (λ f. absurd cc);
+      lists = λ e. other e (λ f. absurd cc) (λ f. absurd cc);
+      unlists = λ e. other e (λ f. absurd cc) (λ f. absurd cc);
+      complete = λ c named. wrong c named;
+      bad_file = λ e. other e (λ f. absurd cc) (λ f. absurd cc);
+      bad_exactly = λ c fault block offset named. wrong c named;
+      no_such_frame = λ e. other e (λ f. absurd cc) (λ f. absurd cc);
+      lacks_exactly = λ c first last named. wrong c named;
+      bad_listing = λ e. other e (λ f. absurd cc) (λ f. absurd cc);
+      listing_exactly = λ c line named. wrong c named;
+      read_fault = λ e. other e (λ f. absurd cc) (λ f. absurd cc);
+      write_fault = λ e. inr (elim ends [ inl is ↦ absurd (let f : status.Usage ≡ status.WriteFault = sym is.0 ∙ e in cc) | inr is ↦ is.1 ]);
+      later = (omega arith, omega arith, later);
+      front = inl refl;
+      noted = inr (usage_line, usage_noted outside, front);
+      no_memory = λ e. other e (λ f. absurd cc) (λ f. absurd cc);
+    }
   where
     wrong : {P : Type 0} (c : Command) → IsNamed words c → P
     wrong c named = absurd (outside c named)
 
-    by : ((result ≡ status.Usage) × Appends notes.bytes_before notes.bytes_now usage_line) ⊎ ((result ≡ status.WriteFault) × Failed notes)
-        → KeepsFiles words (untouched source read reads) (untouched sink taken writes) notes result
-    by (inl (is, noted)) = rw is (record {
-      statuses = tt;
-      usage = λ e. (outside, noted);
-      refused = λ none. (inl refl, refl, refl);
-      unread = λ c named. wrong c named;
-      alone = λ c named. wrong c named;
-      may = λ c named. wrong c named;
-      done = λ e. absurd cc;
-      keeps = λ e. absurd cc;
-      leans = λ e. absurd cc;
-      same = λ e. absurd cc;
-      lists = λ e. absurd cc;
-      unlists = λ e. absurd cc;
-      complete = λ c named. wrong c named;
-      bad_file = λ e. absurd cc;
-      bad_exactly = λ c fault block offset named. wrong c named;
-      no_such_frame = λ e. absurd cc;
-      lacks_exactly = λ c first last named. wrong c named;
-      bad_listing = λ e. absurd cc;
-      listing_exactly = λ c line named. wrong c named;
-      read_fault = λ e. absurd cc;
-      write_fault = λ e. absurd cc;
-      later = (omega arith, omega arith, later);
-      front = inl refl;
-      noted = inr (usage_line, usage_noted outside, front);
-      no_memory = λ e. absurd cc;
-    })
-    by (inr (is, failed)) = rw is (record {
-      statuses = tt;
-      usage = λ e. absurd cc;
-      refused = λ none. (inr refl, refl, refl);
-      unread = λ c named. wrong c named;
-      alone = λ c named. wrong c named;
-      may = λ c named. wrong c named;
-      done = λ e. absurd cc;
-      keeps = λ e. absurd cc;
-      leans = λ e. absurd cc;
-      same = λ e. absurd cc;
-      lists = λ e. absurd cc;
-      unlists = λ e. absurd cc;
-      complete = λ c named. wrong c named;
-      bad_file = λ e. absurd cc;
-      bad_exactly = λ c fault block offset named. wrong c named;
-      no_such_frame = λ e. absurd cc;
-      lacks_exactly = λ c first last named. wrong c named;
-      bad_listing = λ e. absurd cc;
-      listing_exactly = λ c line named. wrong c named;
-      read_fault = λ e. absurd cc;
-      write_fault = λ e. inr failed;
-      later = (omega arith, omega arith, later);
-      front = inl refl;
-      noted = inr (usage_line, usage_noted outside, front);
-      no_memory = λ e. absurd cc;
-    })
+    -- it is none of the other statuses
+    other : {P : Type 0} {found : Status} → result ≡ found → ¬ (status.Usage ≡ found) → ¬ (status.WriteFault ≡ found) → P
+    other is usage write = elim ends [ inl it ↦ absurd (usage (sym it.0 ∙ is)) | inr it ↦ absurd (write (sym it.0 ∙ is)) ]
 
 -- a command that ended with all done
 pub finished : {S K N : Type 0} (words : List (List ℕ)) (c : Command) (source : Seen S) (sink : Seen K) (notes : N) (noted : Option (List ℕ)) (faults : ℕ)
@@ -150,11 +127,11 @@ finished words c source sink notes noted faults are kept =
           (record { text = λ e. ends.text; front = ends.front }, λ writes. inl refl);
       may = λ other named. tt;
       done = λ e. (runs words c source sink (Ok tt) are kept, refl);
-      keeps = λ e range named. kept.keeps range (sym (are.only (Trim range) named));
-      leans = λ e range named. kept.leans range (sym (are.only (Lean range) named));
-      same = λ e named. kept.same (sym (are.only Upgrade named));
-      lists = λ e named. kept.listing (sym (are.only Lists named));
-      unlists = λ e named. kept.unlisted (sym (are.only Unlists named));
+      keeps = λ e range named. shows_as c (Trim range) source sink (are.only (Trim range) named) kept;
+      leans = λ e range named. shows_as c (Lean range) source sink (are.only (Lean range) named) kept;
+      same = λ e named. shows_as c Upgrade source sink (are.only Upgrade named) kept;
+      lists = λ e named. shows_as c Lists source sink (are.only Lists named) kept;
+      unlists = λ e named. shows_as c Unlists source sink (are.only Unlists named) kept;
       complete = λ other named told good reads writes. inl refl;
       bad_file = λ e. absurd cc;
       bad_exactly = λ other fault block offset named told wrong reads writes unnoted.
@@ -225,7 +202,7 @@ stopped words c source sink notes why result are kept told =
           let found = tells status.ReadFault is (λ e. absurd cc) (λ e. absurd cc) in
           let (same, run, line) = read_told Ran Noted why found.0 ran found.1 in
           (fails_read same, run, line);
-      write_fault = λ is. by_cause why result _ _ _ _ told.ends is fails_write;
+      write_fault = λ is. by_cause why result _ _ _ (Failed sink × Ran stop.WriteFault) told.ends is (λ e. (fails_write e, subst Ran e ran));
       later = (kept.later.0, kept.later.1, told.later);
       front = inr (takes_front words c source sink (Err why) are kept);
       noted = inr (line_of why, stop_noted why ran fails_read, told.front);

@@ -6,8 +6,8 @@ use Rattle.gfx_cli.specs.declared.status.Status.{Status}
 use Rattle.gfx_cli.specs.declared.status.Status.TheVariants as status
 use Rattle.gfx_cli.specs.declared.stop.Stop.{Stop}
 use Rattle.gfx_cli.specs.declared.stop.Stop.TheVariants.{WantMemory, BadFile, NoSuchFrame, ReadFault, WriteFault, BadListing}
-use Rattle.gfx_cli.specs.Run.{IsOfCommands, MayEnd}
-use Rattle.gfx_cli.specs.Stop.{status_of, line_of, IsUnwritten, MayStop}
+use Rattle.gfx_cli.specs.Run.{IsOfCommands, MayEnd, MayStop}
+use Rattle.gfx_cli.specs.Stop.{status_of, line_of, IsUnwritten}
 use Rattle.gfx_model.specs.Text.{bad_line}
 use Rattle.gfx_cli.specs.Text.{bad_listing_line, no_such_frame_line, read_fault_line}
 
@@ -105,17 +105,9 @@ told_exactly Line stop wanted result same failed told silent none (inl want) = i
 told_exactly Line stop wanted result same failed told silent none (inr is) =
     told_or_wanting result (status_of wanted) (Line (line_of wanted)) same failed (subst (λ s. IsToldBy result (status_of s) (Line (line_of s)) same failed) is told) none
 
--- a command ends with the status of what may stop it, or for want of memory, or as a write failed
-may_end : (c : Command) (stop : Stop) → MayStop c stop → MayEnd c (status_of stop)
-may_end c (BadFile fault block offset) may = may
-may_end c (NoSuchFrame first last) may = may
-may_end c ReadFault may = may
-may_end c WriteFault may = tt
-may_end c WantMemory may = tt
-may_end c (BadListing line) may = may
-
+-- a command ends with the status of its stop, for want of memory, or as a write failed
 pub ends_so : (c : Command) (stop : Stop) (result : Status) (line same failed : Type 0) → MayStop c stop → IsToldBy result (status_of stop) line same failed → MayEnd c result
-ends_so c stop result line same failed may (inl is) = subst (MayEnd c) (sym is.0) (may_end c stop may)
+ends_so c stop result line same failed may (inl is) = subst (MayEnd c) (sym is.0) may
 ends_so c stop result line same failed may (inr (inl is)) = subst (MayEnd c) (sym is.0) tt
 ends_so c stop result line same failed may (inr (inr is)) = subst (MayEnd c) (sym is.0) tt
 

@@ -64,12 +64,24 @@ asked_by (Some r) = Between r.first r.last
 abbrev pub IsSomeListing : List ℕ → Type 0
 IsSomeListing text = (bytes : List ℕ) × AreBytes bytes × IsListing bytes text
 
+-- a file has the frames of a range
+abbrev pub HasFrames : FrameRange → List ℕ → Type 0
+HasFrames r bytes = trim.IsInside r.first r.last (history_in bytes)
+
+-- its first bad block stands before the last frame of a range, and this is it
+abbrev pub IsBadBefore : FrameRange → Fault → ℕ → ℕ → List ℕ → Type 0
+IsBadBefore r fault block offset bytes = (end_of bytes ≡ bad fault block offset) × trim.IsOutside r.first r.last (history_in bytes)
+
+-- in these bytes stands neither a bad block nor the last frame of a range, and the next block isn't whole
+abbrev pub GoesOnBefore : FrameRange → List ℕ → Type 0
+GoesOnBefore r read = IsUnfinished (blocks_of read).items read × (end_of read ≡ (blocks_of read).end) × trim.IsOutside r.first r.last (history_in read)
+
 -- a file has all that the command asks for
 abbrev pub IsGood : Command → List ℕ → Type 0
 IsGood Info bytes = (blocks_of bytes).end ≡ clean
 IsGood (Replay pixels frames) bytes = play.IsComplete (asked_by frames) bytes
-IsGood (Trim r) bytes = trim.IsInside r.first r.last (history_in bytes)
-IsGood (Lean r) bytes = trim.IsInside r.first r.last (history_in bytes)
+IsGood (Trim r) bytes = HasFrames r bytes
+IsGood (Lean r) bytes = HasFrames r bytes
 IsGood Upgrade bytes = (blocks_of bytes).end ≡ clean
 IsGood Lists bytes = (blocks_of bytes).end ≡ clean
 IsGood Unlists text = IsSomeListing text
@@ -81,8 +93,8 @@ IsGood Version bytes = ⊤
 abbrev pub IsBad : Command → Fault → ℕ → ℕ → List ℕ → Type 0
 IsBad Info fault block offset bytes = (blocks_of bytes).end ≡ bad fault block offset
 IsBad (Replay pixels frames) fault block offset bytes = (end_of bytes ≡ bad fault block offset) × (has_last (asked_by frames) (frames_in bytes) ≡ false)
-IsBad (Trim r) fault block offset bytes = (end_of bytes ≡ bad fault block offset) × trim.IsOutside r.first r.last (history_in bytes)
-IsBad (Lean r) fault block offset bytes = (end_of bytes ≡ bad fault block offset) × trim.IsOutside r.first r.last (history_in bytes)
+IsBad (Trim r) fault block offset bytes = IsBadBefore r fault block offset bytes
+IsBad (Lean r) fault block offset bytes = IsBadBefore r fault block offset bytes
 IsBad Upgrade fault block offset bytes = (blocks_of bytes).end ≡ bad fault block offset
 IsBad Lists fault block offset bytes = (blocks_of bytes).end ≡ bad fault block offset
 IsBad Unlists fault block offset bytes = ⊥
@@ -129,10 +141,8 @@ abbrev pub GoesOn : Command → List ℕ → Type 0
 GoesOn Info read = IsUnfinished (blocks_of read).items read
 GoesOn (Replay pixels frames) read =
     IsUnfinished (blocks_of read).items read × (end_of read ≡ (blocks_of read).end) × (has_last (asked_by frames) (frames_in read) ≡ false)
-GoesOn (Trim r) read =
-    IsUnfinished (blocks_of read).items read × (end_of read ≡ (blocks_of read).end) × trim.IsOutside r.first r.last (history_in read)
-GoesOn (Lean r) read =
-    IsUnfinished (blocks_of read).items read × (end_of read ≡ (blocks_of read).end) × trim.IsOutside r.first r.last (history_in read)
+GoesOn (Trim r) read = GoesOnBefore r read
+GoesOn (Lean r) read = GoesOnBefore r read
 GoesOn Upgrade read = IsUnfinished (blocks_of read).items read
 GoesOn Lists read = IsUnfinished (blocks_of read).items read
 GoesOn Unlists read = (lines : List (List ℕ)) × (rest : List ℕ) × BeginsWith lines rest read × (is_without 10 rest ≡ true)

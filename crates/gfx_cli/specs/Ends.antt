@@ -33,7 +33,7 @@ abbrev pub Stops : Command → Option (List ℕ) → Option (List ℕ) → Stop 
 Stops c before after (BadFile fault block offset) bytes left = IsBad c fault block offset bytes × Appends before after (text_before c bytes)
 Stops c before after (NoSuchFrame first last) bytes left = LacksFrame c first last bytes × Appends before after (text_before c bytes) × (left ≡ [])
 Stops c before after ReadFault bytes left = IsCutOff c before after bytes left
-Stops c before after WriteFault bytes left = WritesPart c before after bytes
+Stops c before after WriteFault bytes left = Writes c (AppendsPart before after) bytes
 Stops c before after WantMemory bytes left = WritesPart c before after bytes
 Stops c before after (BadListing line) bytes left = IsBadLine c line bytes × Appends before after (text_before c bytes)
 

@@ -82,7 +82,9 @@ pub record KeepsFiles {S K N : Type 0} (words : List (List ℕ)) (source : Seen 
   pub read_fault : result ≡ status.ReadFault → Failed source
       × Runs words source.bytes_before source.bytes_now sink.bytes_before sink.bytes_now (Err stop.ReadFault)
       × Appends notes.bytes_before notes.bytes_now read_fault_line
-  pub write_fault : result ≡ status.WriteFault → Failed sink ⊎ Failed notes
+  -- after a failed write of its answer the sink has a front of what the command writes; `lean` writes nothing before it found the range in the file
+  pub write_fault : result ≡ status.WriteFault
+      → (Failed sink × Runs words source.bytes_before source.bytes_now sink.bytes_before sink.bytes_now (Err stop.WriteFault)) ⊎ Failed notes
   pub later : (source.faults_before ≤ source.faults_now) × (sink.faults_before ≤ sink.faults_now) × (notes.faults_before ≤ notes.faults_now)
   -- in any case the sink took a front of what the command writes, and the notes a front of the line that there was a reason for
   pub front : (sink.now ≡ sink.before) ⊎ WritesFront words source.bytes_before source.bytes_now sink.bytes_before sink.bytes_now

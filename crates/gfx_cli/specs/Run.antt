@@ -13,7 +13,7 @@ use Rattle.gfx_cli.specs.declared.stop.Stop.TheVariants.{ReadFault as StoppedRea
 use Rattle.gfx_words.specs.declared.command.Command.TheVariants.{Unlist as Unlists}
 use Rattle.gfx_cli.specs.Commands.{AsksForFrames, Reads, ReadsCapture, Writes}
 use Rattle.gfx_cli.specs.Ends.{Ends, WritesPart}
-use Rattle.gfx_cli.specs.Stop.{line_of}
+use Rattle.gfx_cli.specs.Stop.{line_of, status_of}
 use Rattle.gfx_cli.specs.Text.{usage_line}
 use Rattle.gfx_cli.specs.Words.{IsNamed, IsOutside}
 
@@ -56,6 +56,10 @@ MayEnd c BadScript = ⊥
 MayEnd c CallRefused = ⊥
 MayEnd c LogFull = ⊥
 MayEnd c BadListing = c ≡ Unlists
+
+-- the command may stop for this reason
+abbrev pub MayStop : Command → Stop → Type 0
+MayStop c why = MayEnd c (status_of why)
 
 -- a command that reads no file wrote its text, or a front of it
 pub record RunsAlone (c : Command) (taken_old taken_new : Option (List ℕ)) (status : Status) : Type 0 where

@@ -12,6 +12,11 @@ pub record Seen (T : Type 0) : Type 0 where
   pub faults_before : ℕ
   pub faults_now : ℕ
 
+-- where its bytes and its failures are told so at any time
+abbrev pub seen : {T : Type 0} → T → T → (T → Option (List ℕ)) → (T → ℕ) → Seen T
+seen before now bytes faults =
+    record { before = before; now = now; bytes_before = bytes before; bytes_now = bytes now; faults_before = faults before; faults_now = faults now }
+
 -- it failed during the call
 abbrev pub Failed : {T : Type 0} → Seen T → Type 0
 Failed seen = Rose seen.faults_before seen.faults_now

@@ -1,5 +1,5 @@
 -- Why a command stops: its status, its line, and where the reason comes from.
-use Rattle.std.specs.Prelude.{◌≡◌, ℕ, List, [], ⊤}
+use Rattle.std.specs.Prelude.{ℕ, List, [], ⊤}
 use Rattle.gfx_decode.specs.declared.fault.DecodeFault.{DecodeFault}
 use Rattle.gfx_player.specs.declared.fault.PlayFault.{PlayFault}
 use Rattle.gfx_player.specs.declared.fault.PlayFault.TheVariants as play
@@ -11,11 +11,8 @@ use Rattle.gfx_cli.specs.declared.status.Status.TheVariants as status
 use Rattle.gfx_cli.specs.declared.stop.Stop.{Stop}
 use Rattle.gfx_cli.specs.declared.stop.Stop.TheVariants.{WantMemory, BadFile, NoSuchFrame, ReadFault, WriteFault, BadListing}
 use Rattle.gfx_model.specs.Text.{bad_line}
-use Rattle.gfx_words.specs.declared.command.Command.{Command}
-use Rattle.gfx_words.specs.declared.command.Command.TheVariants.{Unlist as Unlists}
 use Rattle.gfx_list.specs.declared.fault.UnlistFault.{UnlistFault}
 use Rattle.gfx_list.specs.declared.fault.UnlistFault.TheVariants as unlist
-use Rattle.gfx_cli.specs.Commands.{AsksForFrames, Reads, ReadsCapture}
 use Rattle.gfx_cli.specs.Text.{bad_listing_line, no_such_frame_line, read_fault_line}
 
 -- a fault of a walk through a file, as a command hands it on
@@ -50,15 +47,6 @@ IsUnwritten ReadFault = ⊥
 IsUnwritten WriteFault = ⊤
 IsUnwritten WantMemory = ⊤
 IsUnwritten (BadListing line) = ⊥
-
--- the command may stop for this reason
-abbrev pub MayStop : Command → Stop → Type 0
-MayStop c (BadFile fault block offset) = ReadsCapture c
-MayStop c (NoSuchFrame first last) = AsksForFrames c
-MayStop c (BadListing line) = c ≡ Unlists
-MayStop c ReadFault = Reads c
-MayStop c WriteFault = ⊤
-MayStop c WantMemory = ⊤
 
 -- the status with which the program ends
 abbrev pub status_of : Stop → Status

@@ -1,11 +1,9 @@
 // The command whose work is done by all processors.
-ghost use Rattle.std.specs.Prelude.{◌≡◌, ◌≢◌, ◌≤◌, ◌∷◌, [], Err, IfErr, None, codes, true, false, map, string_bytes};
-ghost use Rattle.gfx_io.specs.Causes.{Rose};
-ghost use Rattle.gfx_io.specs.Told.{IfTold};
+ghost use Rattle.std.specs.Prelude.{◌≡◌, ◌≢◌, ◌∷◌, [], None, codes, true, false, map, string_bytes};
 ghost use Rattle.gfx_words.specs.declared.command.Command.TheVariants.{Replay};
-ghost use Rattle.gfx_cli.specs.Ends.{Ends};
+ghost use Rattle.gfx_cli.specs.CommandPromise.{KeepsCommand};
 ghost use Rattle.gfx_cli.specs.FanPromise.{KeepsFan};
-ghost use Rattle.gfx_cli.specs.Stop.{MayStop};
+ghost use Rattle.gfx_cli.specs.Seen.{seen};
 
 use crate::files::USAGE;
 use crate::notes::{note, tell};
@@ -26,9 +24,7 @@ pub fn run_fan<R: Threads + Sync, S: Source, K: Sink, N: Sink>(
     notes: &mut N,
 ) -> Status
     ensures { KeepsFan (map string_bytes words.now)
-        (record { before = source.old; now = source.new; bytes_before = S.left source.old; bytes_now = S.left source.new; faults_before = S.faults source.old; faults_now = S.faults source.new })
-        (record { before = sink.old; now = sink.new; bytes_before = K.taken sink.old; bytes_now = K.taken sink.new; faults_before = K.faults sink.old; faults_now = K.faults sink.new })
-        (record { before = notes.old; now = notes.new; bytes_before = N.taken notes.old; bytes_now = N.taken notes.new; faults_before = N.faults notes.old; faults_now = N.faults notes.new })
+        (seen source.old source.new S.left S.faults) (seen sink.old sink.new K.taken K.faults) (seen notes.old notes.new N.taken N.faults)
         result }
 {
     if asks_for_digests(words) {
@@ -66,12 +62,7 @@ fn show_digests<R: Threads + Sync, S: Source, K: Sink>(
     source: &mut S,
     sink: &mut K,
 ) -> Result<(), Stop>
-    ensures ends { IfTold (S.left source.old) (S.left source.new) (Ends (Replay false None) (K.taken sink.old) (K.taken sink.new) result) }
-    ensures may { IfErr result (MayStop (Replay false None)) }
-    ensures read_fault { result ≡ Err Stop.ReadFault → Rose (S.faults source.old) (S.faults source.new) }
-    ensures write_fault { result ≡ Err Stop.WriteFault → Rose (K.faults sink.old) (K.faults sink.new) }
-    ensures later { (S.faults source.old ≤ S.faults source.new) × (K.faults sink.old ≤ K.faults sink.new) }
+    ensures { KeepsCommand (Replay false None) (seen source.old source.new S.left S.faults) (seen sink.old sink.new K.taken K.faults) result }
 {
-    digests(rt, alloc, source, sink)?;
-    Ok(())
+    Ok(digests(rt, alloc, source, sink)?)
 }

@@ -1,6 +1,7 @@
 // The commands that read and write whole files.
 ghost use Rattle.std.specs.Prelude.{map, string_bytes};
 ghost use Rattle.gfx_cli.specs.FilesPromise.{KeepsFiles};
+ghost use Rattle.gfx_cli.specs.Seen.{seen};
 
 use crate::Status;
 use crate::commands::{named_command, run_command};
@@ -20,9 +21,7 @@ pub fn run_files<S: Source, K: Sink, N: Sink>(
     notes: &mut N,
 ) -> Status
     ensures { KeepsFiles (map string_bytes words.now)
-        (record { before = source.old; now = source.new; bytes_before = S.left source.old; bytes_now = S.left source.new; faults_before = S.faults source.old; faults_now = S.faults source.new })
-        (record { before = sink.old; now = sink.new; bytes_before = K.taken sink.old; bytes_now = K.taken sink.new; faults_before = K.faults sink.old; faults_now = K.faults sink.new })
-        (record { before = notes.old; now = notes.new; bytes_before = N.taken notes.old; bytes_now = N.taken notes.new; faults_before = N.faults notes.old; faults_now = N.faults notes.new })
+        (seen source.old source.new S.left S.faults) (seen sink.old sink.new K.taken K.faults) (seen notes.old notes.new N.taken N.faults)
         result }
 {
     let Some(command) = named_command(words) else {

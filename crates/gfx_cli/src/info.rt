@@ -4,7 +4,7 @@ ghost use Rattle.gfx_io.specs.Causes.{Rose};
 ghost use Rattle.gfx_io.specs.Told.{IfTold};
 ghost use Rattle.gfx_words.specs.declared.command.Command.TheVariants.{Info};
 ghost use Rattle.gfx_cli.specs.Ends.{Ends};
-ghost use Rattle.gfx_cli.specs.Stop.{MayStop};
+ghost use Rattle.gfx_cli.specs.Run.{MayStop};
 
 use crate::Stop;
 use crate::counts::count;

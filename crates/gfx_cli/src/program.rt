@@ -9,6 +9,7 @@ ghost use Rattle.gfx_cli.specs.CapturePromise.{KeepsCapture};
 ghost use Rattle.gfx_cli.specs.Captures.{Ends};
 ghost use Rattle.gfx_cli.specs.FanPromise.{KeepsFan};
 ghost use Rattle.gfx_cli.specs.FilesPromise.{KeepsFiles};
+ghost use Rattle.gfx_cli.specs.Seen.{seen};
 ghost use Rattle.gfx_cli.specs.Words.{BeginsCapture, BeginsDigests, IsAsked, IsNamed};
 
 use crate::Status;
@@ -41,19 +42,13 @@ pub fn run<R: Threads + Wait + Sync, S: Source, K: Sink, N: Sink, G: Gate + Sync
 
     // Words that begin with `capture` are promised all of `run_capture`, those that begin with `digests` all of `run_fan`, and others all of `run_files`.
     ensures capture { BeginsCapture (map string_bytes words.now) → KeepsCapture (map string_bytes words.now)
-        (record { before = source.old; now = source.new; bytes_before = S.left source.old; bytes_now = S.left source.new; faults_before = S.faults source.old; faults_now = S.faults source.new })
-        (record { before = sink.old; now = sink.new; bytes_before = K.taken sink.old; bytes_now = K.taken sink.new; faults_before = K.faults sink.old; faults_now = K.faults sink.new })
-        (record { before = notes.old; now = notes.new; bytes_before = N.taken notes.old; bytes_now = N.taken notes.new; faults_before = N.faults notes.old; faults_now = N.faults notes.new })
+        (seen source.old source.new S.left S.faults) (seen sink.old sink.new K.taken K.faults) (seen notes.old notes.new N.taken N.faults)
         result }
     ensures fan { BeginsDigests (map string_bytes words.now) → KeepsFan (map string_bytes words.now)
-        (record { before = source.old; now = source.new; bytes_before = S.left source.old; bytes_now = S.left source.new; faults_before = S.faults source.old; faults_now = S.faults source.new })
-        (record { before = sink.old; now = sink.new; bytes_before = K.taken sink.old; bytes_now = K.taken sink.new; faults_before = K.faults sink.old; faults_now = K.faults sink.new })
-        (record { before = notes.old; now = notes.new; bytes_before = N.taken notes.old; bytes_now = N.taken notes.new; faults_before = N.faults notes.old; faults_now = N.faults notes.new })
+        (seen source.old source.new S.left S.faults) (seen sink.old sink.new K.taken K.faults) (seen notes.old notes.new N.taken N.faults)
         result }
     ensures files { ¬ BeginsCapture (map string_bytes words.now) → ¬ BeginsDigests (map string_bytes words.now) → KeepsFiles (map string_bytes words.now)
-        (record { before = source.old; now = source.new; bytes_before = S.left source.old; bytes_now = S.left source.new; faults_before = S.faults source.old; faults_now = S.faults source.new })
-        (record { before = sink.old; now = sink.new; bytes_before = K.taken sink.old; bytes_now = K.taken sink.new; faults_before = K.faults sink.old; faults_now = K.faults sink.new })
-        (record { before = notes.old; now = notes.new; bytes_before = N.taken notes.old; bytes_now = N.taken notes.new; faults_before = N.faults notes.old; faults_now = N.faults notes.new })
+        (seen source.old source.new S.left S.faults) (seen sink.old sink.new K.taken K.faults) (seen notes.old notes.new N.taken N.faults)
         result }
 {
     match first_word(words) {

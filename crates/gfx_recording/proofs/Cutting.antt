@@ -1,5 +1,5 @@
 -- What trimming answers of a file in memory that ends cleanly.
-use Rattle.std.proofs.Common.{◌≡◌, ◌<◌, ℕ, List, Option, Result, Err, refl, sym, ◌∙◌, arith}
+use Rattle.std.proofs.Common.{◌≡◌, ℕ, List, Option, Err, refl, sym, ◌∙◌, arith}
 use Rattle.gfx_types.specs.declared.frame.Frame.{Frame}
 use Rattle.gfx_io.specs.Causes.{Rose}
 use Rattle.gfx_model.specs.Blocks.End.{clean}
@@ -13,22 +13,14 @@ use Rattle.gfx_trim.specs.Trims.{Answers}
 use Rattle.gfx_recording.specs.Faults.{IsCutFault, recording_fault}
 use Rattle.gfx_recording.specs.Writing.{Cuts}
 
--- the answers with these faults
-abbrev pub uncut : PlayFault → Result Unit PlayFault
-uncut why = Err why
-
--- no count of faults rises that stays at 0
-none_rose : Rose 0 0 → ⊥
-none_rose rose = omega (arith, rose)
-
 module _ (first last : ℕ) (bytes left : List ℕ) (shown : List Frame) (fit : AreBytes bytes) (means : Means bytes shown clean) where
   ends : end_of bytes ≡ clean
   ends = sym ((meaning_is_computed bytes fit).1.only shown clean means).1
 
-  pub cut_fault : (why : PlayFault) (before after : Option (List ℕ)) → Answers first last before after (Err why) bytes left → (uncut why ≡ Err play.ReadFault → Rose 0 0) → IsCutFault why
+  pub cut_fault : (why : PlayFault) (before after : Option (List ℕ)) → Answers first last before after (Err why) bytes left → (why ≡ play.ReadFault → Rose 0 0) → IsCutFault why
   cut_fault (play.Bad fault block offset) before after a rose = let e = sym ends ∙ a.end in absurd cc
   cut_fault (play.NoSuchFrame low high) before after a rose = tt
-  cut_fault play.ReadFault before after a rose = absurd (none_rose (rose refl))
+  cut_fault play.ReadFault before after a rose = let rises : Rose 0 0 = rose refl in absurd (omega (arith, rises))
   cut_fault play.SinkFault before after a rose = tt
   cut_fault play.WantMemory before after a rose = tt
 

@@ -26,10 +26,10 @@ abbrev pub MeansHistory : ℕ → List Entry → Type 0
 MeansHistory m log = Means (log_file m log) (frames (history log)) clean
 
 -- a whole file was written, or a front of it and a write failed
-abbrev pub Took : Option (List ℕ) → Option (List ℕ) → List ℕ → Result Unit RecordingFault → Type 0
-Took before after file (Ok done) = Appends before after file
-Took before after file (Err SinkFault) = AppendsPart before after file
-Took before after file (Err _) = ⊥
+abbrev pub WritesWhole : Option (List ℕ) → Option (List ℕ) → List ℕ → Result Unit RecordingFault → Type 0
+WritesWhole before after file (Ok done) = Appends before after file
+WritesWhole before after file (Err SinkFault) = AppendsPart before after file
+WritesWhole before after file (Err _) = ⊥
 
 -- a whole file was written and then this is answered, or a front of it and a write failed
 abbrev pub TookThen : RecordingFault → Option (List ℕ) → Option (List ℕ) → List ℕ → Result Unit RecordingFault → Type 0
@@ -46,5 +46,5 @@ Cuts first last before after file (Err _) = ⊥
 
 -- the log was written, or the frames of it that are asked for
 abbrev pub WritesAsked : Asked → Option (List ℕ) → Option (List ℕ) → Logged → Result Unit RecordingFault → Type 0
-WritesAsked All before after log result = Took before after (log_file log.minor log.entries) result
+WritesAsked All before after log result = WritesWhole before after (log_file log.minor log.entries) result
 WritesAsked (Between first last) before after log result = Cuts first last before after (log_file log.minor log.entries) result

@@ -6,7 +6,7 @@ ghost use Rattle.gfx_model.specs.Blocks.{clean};
 ghost use Rattle.gfx_model.specs.Meaning.{Means};
 ghost use Rattle.gfx_log_law.specs.Logs.{log_file};
 ghost use Rattle.gfx_recording.specs.Faults.{IsCutFault, recording_fault};
-ghost use Rattle.gfx_recording.specs.Writing.{Cuts, IsOrdered, MeansHistory, Took, TookThen, WritesAsked};
+ghost use Rattle.gfx_recording.specs.Writing.{Cuts, IsOrdered, MeansHistory, TookThen, WritesAsked, WritesWhole};
 
 use crate::RecordingFault;
 use gfx_capture::Log;
@@ -53,7 +53,7 @@ pub(crate) fn write_halted<K: Sink>(
 /// Writes the whole log.
 fn write_log<K: Sink>(log: &Log, sink: &mut K) -> Result<(), RecordingFault>
     ensures means { MeansHistory log.now.minor log.now.entries }
-    ensures took { Took (K.taken sink.old) (K.taken sink.new) (log_file log.now.minor log.now.entries) result }
+    ensures took { WritesWhole (K.taken sink.old) (K.taken sink.new) (log_file log.now.minor log.now.entries) result }
     ensures sink_fault { result ≡ Err RecordingFault.SinkFault → Rose (K.faults sink.old) (K.faults sink.new) }
     ensures later { K.faults sink.old ≤ K.faults sink.new }
 {

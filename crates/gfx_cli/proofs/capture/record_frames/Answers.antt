@@ -6,14 +6,19 @@ use Rattle.gfx_cli.specs.Commands.{asked_by}
 use Rattle.gfx_cli.proofs.Recorded.{ends_of}
 use Rattle.gfx_cli.proofs.capture.record_frames.Goals as goal
 
-pub returns-clause-ends : goal.returns-clause-ends
-returns-clause-ends g c =
+pub returns : goal.returns
+returns g c =
     let before = g.K.Sink.taken c.args.sink.now in
     let after = g.K.Sink.taken c.record.new.sink in
-    told_if _ _ (Records c.args.recording.gathers (asked_by c.args.recording.frames) before after c.record.result) _
-    (subst (λ a. IfTold (g.S.Source.left c.args.source.now) (g.S.Source.left c.record.new.source) (Records c.args.recording.gathers a before after c.record.result)) c.asked_by-asked.ensures c.record.ensures.told)
-    (λ all rest. ends_of c.args.recording before after c.record.result all rest)
-
-pub returns-clause-complete : goal.returns-clause-complete
-returns-clause-complete g c told safe reads writes =
-    subst (λ a. IsUnstopped a c.record.result) c.asked_by-asked.ensures (c.record.ensures.complete told safe reads writes)
+    let is = c.record.ensures in
+    record {
+      ends =
+          told_if _ _ (Records c.args.recording.gathers (asked_by c.args.recording.frames) before after c.record.result) _
+          (subst (λ a. IfTold (g.S.Source.left c.args.source.now) (g.S.Source.left c.record.new.source) (Records c.args.recording.gathers a before after c.record.result)) c.asked_by-asked.ensures is.told)
+          (λ all rest. ends_of c.args.recording before after c.record.result all rest);
+      leaves = is.leaves;
+      complete = λ told safe reads writes. subst (λ a. IsUnstopped a c.record.result) c.asked_by-asked.ensures (is.complete told safe reads writes);
+      read_fault = is.read_fault;
+      sink_fault = is.sink_fault;
+      later = is.later;
+    }

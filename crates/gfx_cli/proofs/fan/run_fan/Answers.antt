@@ -1,7 +1,7 @@
 use Rattle.std.proofs.Common.{[], ◌∷◌, ◌≢◌}
 use Rattle.std.specs.Prelude.{codes, map, string_bytes, false, None}
 use Rattle.gfx_words.specs.declared.command.Command.TheVariants.{Replay}
-use Rattle.gfx_cli.proofs.Fanning.{replay_kept, replay_words}
+use Rattle.gfx_cli.proofs.Fanning.{replay_words}
 use Rattle.gfx_cli.proofs.Promising.{finished, stopped}
 use Rattle.gfx_cli.proofs.fan.run_fan.Goals as goal
 
@@ -10,7 +10,7 @@ returns-in-Ok g c =
     record {
       digests = λ is.
           finished (codes "replay" ∷ []) (Replay false None) _ _ c.args.notes.now (g.N.Sink.taken c.args.notes.now) (g.N.Sink.faults c.args.notes.now) replay_words
-          (replay_kept _ _ _ c.in-Ok.ensures.ends c.in-Ok.ensures.may c.in-Ok.ensures.read_fault c.in-Ok.ensures.write_fault c.in-Ok.ensures.later);
+          c.in-Ok.ensures;
       refused = λ other. absurd (other (c.asks_for_digests.ensures.yes c.if-asks_for_digests.true));
     }
 
@@ -19,7 +19,7 @@ returns-in-Err g c =
     record {
       digests = λ is.
           stopped (codes "replay" ∷ []) (Replay false None) _ _ _ c.in-Err.stop c.tell.result replay_words
-          (replay_kept _ _ _ c.in-Err.ensures.ends c.in-Err.ensures.may c.in-Err.ensures.read_fault c.in-Err.ensures.write_fault c.in-Err.ensures.later)
+          c.in-Err.ensures
           (record {
             ends = c.tell.ensures.ends;
             front = c.tell.ensures.front;

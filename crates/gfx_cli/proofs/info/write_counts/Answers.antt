@@ -1,4 +1,4 @@
-use Rattle.std.proofs.Common.{inl, inr, Ok, Err, sym, ap, subst, ◌∙◌}
+use Rattle.std.proofs.Common.{inl, Ok, Err, sym, ap, subst, ◌∙◌}
 use Rattle.std.specs.Io.KnownBytes.{Appends}
 use Rattle.std.proofs.lemmas.Result.{err_from_is_err_and}
 use Rattle.gfx_io.specs.Pieces.{AppendsPart}
@@ -27,8 +27,8 @@ returns-in_err-write_whole-clause-ends g c =
     let after = g.K.Sink.taken c.write_whole.new.sink in
     subst (λ r. IfTold (g.S.Source.left c.args.source.now) (g.S.Source.left c.count.new.source) (Ends Info before after r)) (sym (p.1 ∙ ap Err p.2))
     (told_if _ _ (CountsAll (Ok c.in_ok-counts.counts)) (Ends Info before after (Err WriteFault)) c.in_ok-counts.ensures.told
-    (λ all rest told. inr (info_part c.in_ok-counts.counts before after all rest told
-    (subst (AppendsPart before after) (c.as_bytes.ensures.value ∙ c.in_ok-text.ensures) c.in_err-write_whole.ensures.failed))))
+    (λ all rest told. info_part c.in_ok-counts.counts before after all rest told
+    (subst (AppendsPart before after) (c.as_bytes.ensures.value ∙ c.in_ok-text.ensures) c.in_err-write_whole.ensures.failed)))
 
 pub returns-clause-ends : goal.returns-clause-ends
 returns-clause-ends g c =
