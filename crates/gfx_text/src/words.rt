@@ -1,8 +1,8 @@
 // Words of a text: where one ends, and the number or the bytes that it is.
-ghost use Rattle.std.specs.Prelude.{◌≡◌, ◌<◌, ◌^◌, IfOk, MatchOption, not, position};
+ghost use Rattle.std.specs.Prelude.{◌≡◌, ◌*◌, ◌<◌, ◌^◌, true, false, length, Some, None, IfOk, MatchOption, not, position};
 ghost use Rattle.std.specs.List.{position_or_len};
 ghost use Rattle.gfx_script_model.specs.Names.{is_letter_or_digit};
-ghost use Rattle.gfx_text_grammar.specs.Words.{word_of, after_word, number_in, is_plain, raw_in, byte_of, hex_value};
+ghost use Rattle.gfx_text_grammar.specs.Words.{word_of, after_word, number_in, is_plain, raw_in, bytes_of, byte_of, hex_value};
 ghost use Rattle.gfx_text_grammar.specs.Reading.{behind};
 ghost use Rattle.gfx_text_grammar.specs.FieldReading.{without_front};
 ghost use Rattle.gfx_text.specs.Digits.{with_digit};
@@ -109,15 +109,28 @@ pub(crate) fn bytes_of(alloc: Global, word: &[u8]) -> Result<Option<Vec<u8>>, Al
     if word.len() % 2 != 0 {
         return Ok(None);
     }
-    let pairs = word.len() / 2;
-    let mut bytes = Vec::with_capacity(alloc, pairs)?;
-    'pairs: for i in 0..pairs {
-        match byte_of(word[2 * i], word[2 * i + 1]) {
-            Some(byte) => bytes.push(byte)?,
-            None => return Ok(None),
-        }
+    let mut bytes = vec![in alloc; 0; word.len() / 2]?;
+    if read_pairs(word, &mut bytes) {
+        Ok(Some(bytes))
+    } else {
+        Ok(None)
     }
-    Ok(Some(bytes))
+}
+
+/// Puts the byte of each two digits into its place, and says whether all of them are digits. It asks so of the greatest value at the
+/// end and takes no branch on a digit, so that the compiler reads many pairs at once.
+fn read_pairs(word: &[u8], bytes: &mut [u8]) -> bool
+    requires { length word.now ≡ 2 * length bytes.old }
+    ensures whole { result ≡ true → bytes_of word.now ≡ Some bytes.new }
+    ensures broken { result ≡ false → bytes_of word.now ≡ None }
+{
+    let mut most: u8 = 0;
+    'pairs: for i in 0..bytes.len() {
+        let (high, low) = (digit_value(word[2 * i]), digit_value(word[2 * i + 1]));
+        bytes[i] = high.wrapping_mul(16).wrapping_add(low);
+        most = most.max(high).max(low);
+    }
+    most < 16
 }
 
 /// The byte of two hexadecimal digits in lower case. None where one of them is no such digit.

@@ -1,5 +1,5 @@
-use Rattle.std.proofs.Common.{◌≡◌, ◌+◌, ◌*◌, ◌%◌, ◌^◌, ◌<◌, ◌≤◌, length, sym, ◌∙◌, arith}
-use Rattle.gfx_text.proofs.Hex.{bytes_go_on, bytes_break, bytes_end, odd_none, raw_some, raw_none}
+use Rattle.std.proofs.Common.{◌≡◌, ◌%◌, ◌^◌, ◌<◌, length, Some, refl, sym, ap, ◌∙◌, arith}
+use Rattle.gfx_text.proofs.Hex.{odd_none, raw_some, raw_none, written_over}
 use Rattle.gfx_text.proofs.words.bytes_of.Goals as goal
 
 pub returns-then-word-ne0 : goal.returns-then-word-ne0
@@ -7,19 +7,16 @@ returns-then-word-ne0 c =
     let odd : length c.args.word.now % 2 ≡ 1 = omega (arith, c.if-word-ne0.true) in
     raw_none c.args.word.now (odd_none c.args.word.now odd)
 
-pub returns-in-None : goal.returns-in-None
-returns-in-None c =
-    let there : 2 * c.pairs.i + 1 < length c.args.word.now = omega (arith, c.pairs-test.true) in
-    raw_none c.args.word.now (bytes_break c.pairs.bytes.items c.args.word.now c.pairs.i there (sym c.byte_of.ensures ∙ c.in-None.is) c.pairs.invariant)
+pub returns-then-read_pairs : goal.returns-then-read_pairs
+returns-then-read_pairs c =
+    let new = c.read_pairs.new.bytes in
+    let old = c.in_ok-bytes.bytes in
+    let as_long = c.read_pairs.auto.bytes in
+    let lent = c.deref_mut.ensures.len in
+    let same : length new ≡ old.len = omega (arith, as_long, lent, old.ok.0) in
+    let few : length new < 2 ^ 64 = omega (arith, same, old.ok.0, old.small) in
+    raw_some c.args.word.now new (c.if-read_pairs.ensures.whole refl) few
+    ∙ ap Some (sym (written_over old.len new old.items same (omega (arith, old.ok.0))))
 
-pub pairs-preserved : goal.pairs-preserved
-pairs-preserved c =
-    let there : 2 * c.pairs.i + 1 < length c.args.word.now = omega (arith, c.pairs-test.true) in
-    rw c.in_ok-push-in-Some.ensures.items
-    (bytes_go_on c.pairs.bytes.items c.args.word.now c.pairs.i c.in-Some.byte there (sym c.byte_of.ensures ∙ c.in-Some.is) c.pairs.invariant)
-
-pub returns : goal.returns
-returns c =
-    let all : length c.args.word.now ≤ 2 * c.pairs.i = omega (arith, c.pairs-test.false, c.if-word-ne0.false) in
-    let few : length c.pairs.bytes.items < 2 ^ 64 = omega (arith, c.pairs.bytes.ok.0, c.pairs.bytes.small) in
-    raw_some c.args.word.now c.pairs.bytes.items (bytes_end c.pairs.bytes.items c.args.word.now c.pairs.i all c.pairs.invariant) few
+pub returns-else-read_pairs : goal.returns-else-read_pairs
+returns-else-read_pairs c = raw_none c.args.word.now (c.if-read_pairs.ensures.broken refl)
