@@ -17,8 +17,8 @@ TICKS = os.sysconf("SC_CLK_TCK")
 LOG = "/tmp/gfxcap-gate.log"
 
 
-def seen():
-    """The checker's processes: pid, crate, kind and the processor time that each has had so far."""
+def seen(session):
+    """The checker's processes of one session: pid, crate, kind and the processor time that each has had so far."""
     for pid in filter(str.isdigit, os.listdir("/proc")):
         try:
             with open(f"/proc/{pid}/cmdline", "rb") as file:
@@ -31,6 +31,8 @@ def seen():
                 fields = file.read().rsplit(")", 1)[1].split()
         except (OSError, IndexError, ValueError):
             continue
+        if int(fields[3]) != session:
+            continue
         kind = "edits" if "/rt-edit" in folder else "tests" if "--test" in words else "proof"
         yield pid, crate, kind, (int(fields[11]) + int(fields[12])) / TICKS
 
@@ -38,10 +40,11 @@ def seen():
 def main():
     start, took, begun, ended = time.time(), {}, {}, {}
     with open(LOG, "w") as log:
-        gate = subprocess.Popen(["rt", "ci", *sys.argv[1:]], stdout=log, stderr=subprocess.STDOUT, stdin=subprocess.DEVNULL)
+        gate = subprocess.Popen(["rt", "ci", *sys.argv[1:]], stdout=log, stderr=subprocess.STDOUT, stdin=subprocess.DEVNULL,
+                                start_new_session=True)
         while gate.poll() is None:
             now = time.time() - start
-            for pid, crate, kind, seconds in seen():
+            for pid, crate, kind, seconds in seen(gate.pid):
                 took[pid, crate, kind] = seconds
                 begun.setdefault((crate, kind), now)
                 ended[crate, kind] = now

@@ -14,7 +14,7 @@ TOP = os.path.dirname(os.path.dirname(os.path.dirname(os.path.abspath(__file__))
 sys.path.insert(0, os.path.join(TOP, "bench", "replay"))
 import run as replay  # noqa: E402
 
-RUNS = 5
+RUNS = 12
 
 
 def written(words, path, name):
@@ -26,8 +26,9 @@ def written(words, path, name):
 
 
 def compare(words, path, other, other_path, most):
-    took = min(replay.run(words, path) for _ in range(RUNS))
-    beside = min(replay.run(other, other_path) for _ in range(RUNS))
+    # by turns, since a machine that others share is faster at one time than at another
+    turns = [(replay.run(words, path), replay.run(other, other_path)) for _ in range(RUNS)]
+    took, beside = (min(times) for times in zip(*turns))
     kilobytes = replay.memory(words, path)
     print(
         f"{words[1]:8} {took:8.3f} s   {' '.join(other):10} {beside:8.3f} s   quotient {took / beside:5.2f}"
