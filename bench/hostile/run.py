@@ -212,6 +212,89 @@ def copies_of_regions(n):
     yield submit([[FIRST]])
 
 
+def pools_with_buffers(n):
+    """Pools with a begun buffer each, reset, begun again and destroyed."""
+    yield from objects()
+    pools = ids(n, 10**6)
+    buffers = ids(n)
+    for pool, buffer in zip(pools, buffers):
+        yield call("CreateCommandPool", device=DEVICE, pool=pool, flags=2)
+        yield call("AllocateCommandBuffers", device=DEVICE, pool=pool, buffers=[buffer])
+        yield begin(buffer) + fill(buffer)
+    for pool in pools:
+        yield call("ResetCommandPool", device=DEVICE, pool=pool)
+    for buffer in buffers:
+        yield begin(buffer) + fill(buffer)
+    for pool in pools:
+        yield call("DestroyCommandPool", device=DEVICE, pool=pool)
+
+
+def pools_beside_buffers(n):
+    """Pools with a buffer each, destroyed beside as many buffers of another pool."""
+    yield from objects()
+    yield from allocated(ids(n, 3 * 10**6))
+    pools = ids(n, 10**6)
+    for pool, buffer in zip(pools, ids(n, 5 * 10**6)):
+        yield call("CreateCommandPool", device=DEVICE, pool=pool, flags=2)
+        yield call("AllocateCommandBuffers", device=DEVICE, pool=pool, buffers=[buffer])
+    for pool in pools:
+        yield call("DestroyCommandPool", device=DEVICE, pool=pool)
+
+
+def memories_beside_named(n):
+    """Memories made and freed beside as many resources that commands name."""
+    yield from objects()
+    yield from allocated([FIRST])
+    yield begin(FIRST)
+    for buffer in ids(n, 10**6):
+        yield call("CreateBuffer", device=DEVICE, buffer=buffer, size=16, usage=3)
+        yield call("BindBufferMemory", device=DEVICE, buffer=buffer, memory=MEMORY, offset=0)
+        yield fill(FIRST, buffer)
+    for memory in ids(n, 2 * 10**6):
+        yield call("AllocateMemory", device=DEVICE, memory=memory, size=16)
+        yield call("FreeMemory", device=DEVICE, memory=memory)
+
+
+def swapchains(n):
+    """Swapchains, each on a surface of its own, with their images, destroyed one after another."""
+    yield call("CreateInstance", instance=INSTANCE, api=4194304)
+    yield call("CreateDevice", instance=INSTANCE, device=DEVICE)
+    for at in range(n):
+        surface, swapchain, image = 10**6 + at, 2 * 10**6 + at, 3 * 10**6 + at
+        yield call("CreateHeadlessSurfaceEXT", instance=INSTANCE, surface=surface)
+        shape = dict(format=R8_UINT, width=1, height=1, usage=3)
+        yield call("CreateSwapchainKHR", device=DEVICE, swapchain=swapchain, surface=surface, images=1, **shape)
+        yield call("GetSwapchainImagesKHR", device=DEVICE, swapchain=swapchain, images=[image])
+    for at in range(n):
+        yield call("DestroySwapchainKHR", device=DEVICE, swapchain=2 * 10**6 + at)
+        yield call("DestroySurfaceKHR", instance=INSTANCE, surface=10**6 + at)
+
+
+def devices(n):
+    """Devices with their queues, destroyed one after another."""
+    yield call("CreateInstance", instance=INSTANCE, api=4194304)
+    for at in range(n):
+        yield call("CreateDevice", instance=INSTANCE, device=10**6 + at)
+        yield call("GetDeviceQueue", device=10**6 + at, queue=2 * 10**6 + at)
+    for at in range(n):
+        yield call("DestroyDevice", device=10**6 + at)
+
+
+def images_asked_for(n):
+    """A submit of buffers each of which asks for 64 images in the layout in which the first one left them."""
+    yield from objects()
+    some = ids(64, 10**6)
+    yield from images(64, 10**6)
+    buffers = ids(n)
+    yield from allocated(buffers)
+    first = call("CmdPipelineBarrier", cb=FIRST, barriers=[(image, 0, GENERAL) for image in some])
+    yield begin(FIRST) + first + end(FIRST)
+    for buffer in buffers[1:]:
+        clears = [call("CmdClearColorImage", cb=buffer, image=image, layout=GENERAL, c0=1, c1=0, c2=0, c3=0) for image in some]
+        yield begin(buffer) + b"".join(clears) + end(buffer)
+    yield submit(groups_of(buffers))
+
+
 # the name, the smaller size, and what the quotient is wanted to be for the larger one, where that was said
 CAPTURES = [
     (one_long_buffer, 4000, 3),
@@ -227,6 +310,12 @@ CAPTURES = [
     (freed_memories, 4000, None),
     (ends_of_images, 4000, None),
     (copies_of_regions, 100, None),
+    (pools_with_buffers, 2000, None),
+    (pools_beside_buffers, 2000, None),
+    (memories_beside_named, 2000, None),
+    (swapchains, 2000, None),
+    (devices, 2000, None),
+    (images_asked_for, 256, None),
 ]
 
 
