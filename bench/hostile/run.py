@@ -212,21 +212,28 @@ def copies_of_regions(n):
     yield submit([[FIRST]])
 
 
-def pools_with_buffers(n):
-    """Pools with a begun buffer each, reset, begun again and destroyed."""
-    yield from objects()
-    pools = ids(n, 10**6)
-    buffers = ids(n)
+def pools_of_one(pools, buffers):
+    """Pools with a buffer each."""
     for pool, buffer in zip(pools, buffers):
         yield call("CreateCommandPool", device=DEVICE, pool=pool, flags=2)
         yield call("AllocateCommandBuffers", device=DEVICE, pool=pool, buffers=[buffer])
-        yield begin(buffer) + fill(buffer)
+
+
+def of_each_pool(name, pools):
     for pool in pools:
-        yield call("ResetCommandPool", device=DEVICE, pool=pool)
-    for buffer in buffers:
-        yield begin(buffer) + fill(buffer)
-    for pool in pools:
-        yield call("DestroyCommandPool", device=DEVICE, pool=pool)
+        yield call(name, device=DEVICE, pool=pool)
+
+
+def pools_with_buffers(n):
+    """Pools with a begun buffer each, reset, begun again and destroyed."""
+    yield from objects()
+    pools, buffers = ids(n, 10**6), ids(n)
+    begun = b"".join(begin(buffer) + fill(buffer) for buffer in buffers)
+    yield from pools_of_one(pools, buffers)
+    yield begun
+    yield from of_each_pool("ResetCommandPool", pools)
+    yield begun
+    yield from of_each_pool("DestroyCommandPool", pools)
 
 
 def pools_beside_buffers(n):
@@ -234,11 +241,8 @@ def pools_beside_buffers(n):
     yield from objects()
     yield from allocated(ids(n, 3 * 10**6))
     pools = ids(n, 10**6)
-    for pool, buffer in zip(pools, ids(n, 5 * 10**6)):
-        yield call("CreateCommandPool", device=DEVICE, pool=pool, flags=2)
-        yield call("AllocateCommandBuffers", device=DEVICE, pool=pool, buffers=[buffer])
-    for pool in pools:
-        yield call("DestroyCommandPool", device=DEVICE, pool=pool)
+    yield from pools_of_one(pools, ids(n, 5 * 10**6))
+    yield from of_each_pool("DestroyCommandPool", pools)
 
 
 def memories_beside_named(n):
