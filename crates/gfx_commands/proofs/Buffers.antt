@@ -1,19 +1,14 @@
 -- The buffers after a change of one row.
 use Rattle.std.proofs.Common.{◌≡◌, ℕ, ◌==◌, Bool, true, false, ◌&&◌, Option, Some, None, is_some, if◌then◌else◌, refl, ap, sym, ◌∙◌, arith}
-use Rattle.std.specs.Prelude.{zero, suc, List, [], ◌∷◌, slice_get, option_map}
 use Rattle.std.specs.Option.{option_map_or}
 use Rattle.std.specs.Ordering.{nat_cmp}
 use Rattle.std.specs.FinMap as map
 use Rattle.std.specs.FinMap.{FinMap, get-empty}
 use Rattle.std.proofs.lemmas.Bool.Decides.{nat_tests}
 use Rattle.gfx_table.specs.Rows.{got-insert, got-remove}
-use Rattle.gfx_model.specs.Events.{Event}
 use Rattle.gfx_model.specs.Questions.{State, Buffer, new_buffer, invalidated, is_once}
 use Rattle.gfx_model.specs.Checks.{is_recording}
-use Rattle.gfx_commands.specs.declared.recorded.Recorded.{Recorded}
 use Rattle.gfx_commands.specs.declared.recording.Recording.{Recording}
-use Rattle.gfx_commands.specs.Recorded.{event_in}
-use Rattle.gfx_commands.specs.Commands.{events_in}
 use Rattle.gfx_commands.specs.Recording.{state_of, buffer_of}
 use Rattle.gfx_commands.specs.Recordings.{buffers}
 
@@ -56,16 +51,12 @@ module _ (m n : FinMap nat_cmp Recording) (id : ℕ) where
 -- ---- invalidated
 
 -- a buffer that isn't kept stays as it is
-pub stays_new : (m : FinMap nat_cmp Recording) (cb : ℕ) → is_some (map.get m cb) ≡ false → buffers m ≡ (λ x. if cb == x then invalidated true (buffers m x) else buffers m x)
+pub stays_new : (m : FinMap nat_cmp Recording) (cb : ℕ) → map.get m cb ≡ None → buffers m ≡ (λ x. if cb == x then invalidated true (buffers m x) else buffers m x)
 stays_new m cb none = λ i x. (choose cb x (buffers m x) (invalidated true (buffers m x)) (buffers m x) (λ e. here x e) (λ e. refl)) i
   where
-    its : (o : Option Recording) → is_some o ≡ false → o ≡ None
-    its None e = refl
-    its (Some r) e = cc
-
     here : (x : ℕ) → cb ≡ x → buffers m x ≡ invalidated true (buffers m x)
     here x e =
-        let is : buffers m x ≡ new_buffer = sym (ap (buffers m) e) ∙ found m cb None (its (map.get m cb) none) in
+        let is : buffers m x ≡ new_buffer = sym (ap (buffers m) e) ∙ found m cb None none in
         is ∙ sym (ap (invalidated true) is)
 
 -- ---- executed
@@ -91,16 +82,6 @@ module _ (b : ℕ → Buffer) (cb : ℕ) where
 
   pub stays_executable : is_once (b cb) ≡ false → b ≡ (λ x. invalidated (cb == x && is_once (b x)) (b x))
   stays_executable once = λ i x. (not_once x (cb == x) refl once) i
-
--- ---- one command
-
-pub event_at : (rs : List Recorded) (k : ℕ) → option_map event_in (slice_get rs k) ≡ slice_get (events_in rs) k
-event_at [] k = refl
-event_at (r ∷ rs) zero = refl
-event_at (r ∷ rs) (suc k) = event_at rs k
-
-pub nothing_at : (k : ℕ) → ◌≡◌ {A = Option Event} (slice_get [] k) None
-nothing_at k = refl
 
 -- ---- a recording buffer
 

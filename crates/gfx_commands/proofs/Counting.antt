@@ -1,5 +1,5 @@
 -- The totals after a change of one row.
-use Rattle.std.proofs.Common.{◌≡◌, ℕ, ◌+◌, ◌≤◌, Bool, true, false, List, [], ◌∷◌, length, Option, Some, None, is_some, if◌then◌else◌, refl, ap, sym, ◌∙◌, arith, ◌==◌}
+use Rattle.std.proofs.Common.{◌≡◌, ℕ, ◌+◌, ◌≤◌, Bool, true, false, List, [], ◌∷◌, length, Option, Some, None, if◌then◌else◌, refl, ap, sym, ◌∙◌, arith, ◌==◌}
 use Rattle.std.specs.Prelude.{sum_by}
 use Rattle.std.specs.Option.{option_map_or}
 use Rattle.std.specs.Ordering.{nat_cmp}
@@ -7,13 +7,16 @@ use Rattle.std.specs.FinMap as map
 use Rattle.std.specs.FinMap.{FinMap, get-empty}
 use Rattle.std.proofs.lemmas.Bool.Decides.{nat_tests}
 use Rattle.std.proofs.lemmas.List.Sums.{sum_by-cons}
-use Rattle.gfx_table.specs.Rows.{total, weight, total-insert, total-remove, total-by_ids, got-remove, same_rows, got-insert, insert_again}
+use Rattle.gfx_table.specs.Rows.{total, weight, total-insert, total-remove, total-by_ids, got-remove, same_rows, got-insert}
 use Rattle.gfx_model.specs.Questions.{Buffer, new_buffer, is_kept}
 use Rattle.gfx_model.specs.Spelling.{spelling}
 use Rattle.gfx_model.specs.Views.{commands_in, bytes_in}
 use Rattle.gfx_model.specs.Checks.{is_among, is_distinct}
 use Rattle.gfx_commands.specs.declared.recording.Recording.{Recording}
 use Rattle.gfx_commands.specs.Recording.{buffer_of}
+use Rattle.gfx_model.specs.Limits.{max_kept_bytes, max_kept_commands}
+use Rattle.gfx_commands.specs.declared.rows.Totals.{Totals}
+use Rattle.gfx_commands.specs.Counted.{IsCounted}
 use Rattle.gfx_commands.specs.Recordings.{buffers, commands_total, bytes_total, HoldsKept}
 
 abbrev commands_by : ℕ → Recording → ℕ
@@ -95,11 +98,65 @@ module _ (m : FinMap nat_cmp Recording) (id : ℕ) (none : map.get m id ≡ None
   pub nothing_removed : (n : FinMap nat_cmp Recording) → n ≡ map.remove m id → n ≡ m
   nothing_removed n is = is ∙ remove_none m id none commands_by
 
-pub still_there : (m : FinMap nat_cmp Recording) (id : ℕ) (n : FinMap nat_cmp Recording) (r : Recording) → n ≡ map.insert m id r → is_some (map.get n id) ≡ true
-still_there m id n r is = let a = ap (λ m. map.get m id) is ∙ ap (λ f. f id) (got-insert m id r) in grind (arith, nat_tests, a)
+-- ---- the totals beside the rows
 
-pub insert_over : (m : FinMap nat_cmp Recording) (id : ℕ) (n : FinMap nat_cmp Recording) (r : Recording) → n ≡ map.insert m id r → (row : Recording) → map.insert n id row ≡ map.insert m id row
-insert_over m id n r is row = ap (λ m. map.insert m id row) is ∙ insert_again m id r row
+module _ (m : FinMap nat_cmp Recording) (t : Totals) (counted : IsCounted m t) (id : ℕ) where
+  module _ (o : Recording) (some : map.get m id ≡ Some o) where
+    pub commands_counted : commands_in (buffer_of o) ≤ t.commands
+    commands_counted = let part = commands_part m id o some in let all = counted.commands in omega (arith, part, all)
+
+    pub bytes_counted : bytes_in (buffer_of o) ≤ t.bytes
+    bytes_counted = let part = bytes_part m id o some in let all = counted.bytes in omega (arith, part, all)
+
+    -- another row under the id
+    pub counted_over : (r : Recording) (n : FinMap nat_cmp Recording) (now : Totals) → n ≡ map.insert m id r
+        → now.commands + commands_in (buffer_of o) ≡ t.commands + commands_in (buffer_of r) → now.bytes + bytes_in (buffer_of o) ≡ t.bytes + bytes_in (buffer_of r)
+        → now.commands ≤ max_kept_commands → now.bytes ≤ max_kept_bytes → IsCounted n now
+    counted_over r n now is commands bytes few small =
+        let all = commands_replaced m id o some n r is in
+        let each = bytes_replaced m id o some n r is in
+        record {
+          commands = let old = counted.commands in omega (arith, all, commands, old);
+          bytes = let old = counted.bytes in omega (arith, each, bytes, old);
+          few = few;
+          small = small;
+        }
+
+    -- no row under the id any more
+    pub counted_without : (n : FinMap nat_cmp Recording) (now : Totals) → n ≡ map.remove m id
+        → now.commands + commands_in (buffer_of o) ≡ t.commands → now.bytes + bytes_in (buffer_of o) ≡ t.bytes → IsCounted n now
+    counted_without n now is commands bytes =
+        let all = commands_removed m id o some n is in
+        let each = bytes_removed m id o some n is in
+        record {
+          commands = let old = counted.commands in omega (arith, all, commands, old);
+          bytes = let old = counted.bytes in omega (arith, each, bytes, old);
+          few = let old = counted.few in omega (arith, old, commands);
+          small = let old = counted.small in omega (arith, old, bytes);
+        }
+
+  module _ (none : map.get m id ≡ None) where
+    -- a row under a new id, which counts nothing
+    pub counted_new : (r : Recording) (n : FinMap nat_cmp Recording) → n ≡ map.insert m id r → commands_in (buffer_of r) ≡ 0 → bytes_in (buffer_of r) ≡ 0 → IsCounted n t
+    counted_new r n is no_commands no_bytes =
+        let all = commands_fresh m id none n r is in
+        let each = bytes_fresh m id none n r is in
+        record {
+          commands = let old = counted.commands in omega (arith, all, no_commands, old);
+          bytes = let old = counted.bytes in omega (arith, each, no_bytes, old);
+          few = counted.few;
+          small = counted.small;
+        }
+
+    pub counted_still : (n : FinMap nat_cmp Recording) → n ≡ map.remove m id → IsCounted n t
+    counted_still n is =
+        let same = nothing_removed m id none n is in
+        record {
+          commands = counted.commands ∙ sym (ap commands_total same);
+          bytes = counted.bytes ∙ sym (ap bytes_total same);
+          few = counted.few;
+          small = counted.small;
+        }
 
 -- ---- all rows, over ids among which all are that count
 

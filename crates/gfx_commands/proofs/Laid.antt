@@ -1,18 +1,14 @@
 -- The layouts that buffers leave, one buffer after the other.
-use Rattle.std.proofs.Common.{◌≡◌, ℕ, ◌+◌, ◌<◌, Bool, true, false, not, List, [], ◌∷◌, ◌++◌, length, take, get_or, Option, Some, None, is_some, unwrap_or, refl, ap, sym, ◌∙◌, arith, append_assoc}
+use Rattle.std.proofs.Common.{◌≡◌, ℕ, ◌+◌, ◌<◌, ◌≤◌, Bool, true, false, ◌&&◌, List, [], ◌∷◌, ◌++◌, length, take, get_or, Option, Some, unwrap_or, refl, ap, sym, ◌∙◌, subst, arith, append_assoc, append-nil}
 use Rattle.std.specs.Prelude.{flat_map, slice_get, zero, suc}
 use Rattle.std.proofs.Common.{add-one}
 use Rattle.std.specs.Option.{option_map_or}
-use Rattle.std.specs.Ordering.{nat_cmp}
-use Rattle.std.specs.FinMap as map
-use Rattle.std.specs.FinMap.{FinMap}
 use Rattle.gfx_types.specs.declared.lists.Submit.{Submit}
 use Rattle.gfx_model.specs.Questions.{Buffer}
-use Rattle.gfx_model.specs.Checks.{Layouts, meets, layouts_after}
-use Rattle.gfx_commands.specs.declared.uses.Use.{Use}
-use Rattle.gfx_commands.specs.Uses.{IsIndex, plain, use_of, suits}
+use Rattle.gfx_model.specs.Checks.{Layouts, layouts_after, meets}
 use Rattle.gfx_model.specs.Layouts.{asked_in, cbs_at, executed_before, layouts_by}
-use Rattle.gfx_commands.proofs.Index.{layouts_after-append}
+use Rattle.gfx_commands.specs.Differing.{AreMet}
+use Rattle.gfx_commands.proofs.Index.{layouts_after-append, meets-append}
 
 -- ---- lists
 
@@ -26,7 +22,7 @@ module _ {X : Type 0} (x : X) where
   take_suc (y ∷ ys) zero is = ap (λ o. unwrap_or o y ∷ []) is
   take_suc (y ∷ ys) (suc n) is = ap (λ l. y ∷ l) (take_suc ys n is)
 
-  take_next : (xs : List X) (n : ℕ) → slice_get xs n ≡ Some x → take (n + 1) xs ≡ take n xs ++ x ∷ []
+  pub take_next : (xs : List X) (n : ℕ) → slice_get xs n ≡ Some x → take (n + 1) xs ≡ take n xs ++ x ∷ []
   take_next xs n is = ap (λ k. take k xs) (add-one n) ∙ take_suc xs n is
 
 pub get_at : {X : Type 0} (xs : List X) (n : ℕ) (x d : X) → n < length xs → x ≡ get_or xs n d → slice_get xs n ≡ Some x
@@ -36,80 +32,119 @@ get_at (y ∷ ys) (suc n) x d h e = get_at ys n x d (omega arith) e
 
 -- ---- one buffer after the other
 
+both_true : (a b : Bool) → (a && b) ≡ true → (a ≡ true) × (b ≡ true)
+both_true true true e = (refl, refl)
+both_true true false e = absurd cc
+both_true false b e = absurd cc
+
+-- the buffers of a submit, as they are read
+pub part_of : (submits : List Submit) (submit : ℕ) (s : Submit) → slice_get submits submit ≡ Some s → (cbs : List ℕ) → cbs ≡ s.cbs → cbs_at submits submit ≡ cbs
+part_of submits submit s here cbs is = ap (λ o. option_map_or (λ (s : Submit). s.cbs) o []) here ∙ sym is
+
+abbrev cbs_of : List Submit → List ℕ
+cbs_of submits = flat_map (λ (s : Submit). s.cbs) submits
+
+-- the buffers of the first n + 1 submits
+cbs_next : (submits : List Submit) (n : ℕ) (s : Submit) → slice_get submits n ≡ Some s → cbs_of (take (n + 1) submits) ≡ cbs_of (take n submits) ++ s.cbs
+cbs_next submits n s at =
+    ap cbs_of (take_next s submits n at) ∙ flat_map-append (λ (s : Submit). s.cbs) (take n submits) (s ∷ [])
+    ∙ ap (λ l. cbs_of (take n submits) ++ l) (append-nil s.cbs)
+
+take_whole : (xs : List ℕ) (n : ℕ) → length xs ≤ n → take n xs ≡ xs
+take_whole [] zero h = refl
+take_whole [] (suc n) h = refl
+take_whole (x ∷ xs) zero h = absurd (omega arith)
+take_whole (x ∷ xs) (suc n) h = ap (λ l. x ∷ l) (take_whole xs n (omega arith))
+
 module _ (b : ℕ → Buffer) where
   by_append : (layout : ℕ → ℕ) (xs ys : List ℕ) → layouts_by b layout (xs ++ ys) ≡ layouts_by b (layouts_by b layout xs) ys
   by_append layout xs ys = ap (layouts_after layout) (flat_map-append (asked_in b) xs ys) ∙ layouts_after-append layout (flat_map (asked_in b) xs) (flat_map (asked_in b) ys)
 
   by_one : (layout : ℕ → ℕ) (cb : ℕ) → layouts_by b layout (cb ∷ []) ≡ layouts_after layout (asked_in b cb)
-  by_one layout cb = ap (layouts_after layout) (right (asked_in b cb))
-    where
-      right : (ys : List Layouts) → ys ++ [] ≡ ys
-      right [] = refl
-      right (y ∷ ys) = ap (λ l. y ∷ l) (right ys)
+  by_one layout cb = ap (layouts_after layout) (append-nil (asked_in b cb))
+
+  met_append : (layout : ℕ → ℕ) (xs ys : List ℕ)
+      → meets layout (flat_map (asked_in b) (xs ++ ys)) ≡ (meets layout (flat_map (asked_in b) xs) && meets (layouts_by b layout xs) (flat_map (asked_in b) ys))
+  met_append layout xs ys =
+      ap (meets layout) (flat_map-append (asked_in b) xs ys) ∙ meets-append layout (flat_map (asked_in b) xs) (flat_map (asked_in b) ys)
+
+  -- of buffers that meet their layouts the first ones do, and the others do after them
+  met_parts : (layout : ℕ → ℕ) (xs ys : List ℕ) → AreMet b layout (xs ++ ys) → (AreMet b layout xs) × (AreMet b (layouts_by b layout xs) ys)
+  met_parts layout xs ys met = both_true _ _ (sym (met_append layout xs ys) ∙ met)
+
+  met_one : (layout : ℕ → ℕ) (cb : ℕ) → AreMet b layout (cb ∷ []) → meets layout (asked_in b cb) ≡ true
+  met_one layout cb met = ap (meets layout) (sym (append-nil (asked_in b cb))) ∙ met
+
+  -- one that meets its layouts after others that meet theirs
+  met_more : (layout : ℕ → ℕ) (xs : List ℕ) (cb : ℕ) → AreMet b layout xs → meets (layouts_by b layout xs) (asked_in b cb) ≡ true → AreMet b layout (xs ++ cb ∷ [])
+  met_more layout xs cb met one =
+      met_append layout xs (cb ∷ []) ∙ ap (λ t. t && meets (layouts_by b layout xs) (asked_in b cb ++ [])) met
+      ∙ ap (meets (layouts_by b layout xs)) (append-nil (asked_in b cb)) ∙ one
 
   -- the last buffer of the first n + 1 decides
-  pub last_buffer : (cbs : List ℕ) (n cb image : ℕ) (left : Option ℕ) → slice_get cbs n ≡ Some cb
-      → ((layout : ℕ → ℕ) → layouts_after layout (asked_in b cb) image ≡ unwrap_or left (layout image))
-      → (layout : ℕ → ℕ) → layouts_by b layout (take (n + 1) cbs) image ≡ unwrap_or left (layouts_by b layout (take n cbs) image)
-  last_buffer cbs n cb image left at leaves layout =
-      ap (λ l. layouts_by b layout l image) (take_next cb cbs n at)
-      ∙ ap (λ f. f image) (by_append layout (take n cbs) (cb ∷ []))
-      ∙ ap (λ f. f image) (by_one (layouts_by b layout (take n cbs)) cb)
-      ∙ leaves (layouts_by b layout (take n cbs))
+  module _ (cbs : List ℕ) (n cb : ℕ) (at : slice_get cbs n ≡ Some cb) (layout : ℕ → ℕ) (met : AreMet b layout (take (n + 1) cbs)) where
+    abbrev cut : AreMet b layout (take n cbs ++ cb ∷ [])
+    cut = subst (AreMet b layout) (take_next cb cbs n at) met
 
-  abbrev cbs_of : List Submit → List ℕ
-  cbs_of submits = flat_map (λ (s : Submit). s.cbs) submits
+    pub fewer_buffers : AreMet b layout (take n cbs)
+    fewer_buffers = (met_parts layout (take n cbs) (cb ∷ []) cut).0
+
+    pub last_buffer : (image : ℕ) (known : Option ℕ)
+        → ((layout : ℕ → ℕ) → meets layout (asked_in b cb) ≡ true → layouts_after layout (asked_in b cb) image ≡ unwrap_or known (layout image))
+        → layouts_by b layout (take (n + 1) cbs) image ≡ unwrap_or known (layouts_by b layout (take n cbs) image)
+    last_buffer image known leaves =
+        ap (λ l. layouts_by b layout l image) (take_next cb cbs n at)
+        ∙ ap (λ f. f image) (by_append layout (take n cbs) (cb ∷ []))
+        ∙ ap (λ f. f image) (by_one (layouts_by b layout (take n cbs)) cb)
+        ∙ leaves (layouts_by b layout (take n cbs)) (met_one _ cb (met_parts layout (take n cbs) (cb ∷ []) cut).1)
 
   -- the last submit of the first n + 1 decides
-  pub last_submit : (submits : List Submit) (n image : ℕ) (s : Submit) (left : Option ℕ) → slice_get submits n ≡ Some s
-      → ((layout : ℕ → ℕ) → layouts_by b layout s.cbs image ≡ unwrap_or left (layout image))
-      → (layout : ℕ → ℕ) → layouts_by b layout (cbs_of (take (n + 1) submits)) image ≡ unwrap_or left (layouts_by b layout (cbs_of (take n submits)) image)
-  last_submit submits n image s left at leaves layout =
-      ap (λ l. layouts_by b layout (cbs_of l) image) (take_next s submits n at)
-      ∙ ap (λ l. layouts_by b layout l image) (flat_map-append (λ (s : Submit). s.cbs) (take n submits) (s ∷ []) ∙ ap (λ l. cbs_of (take n submits) ++ l) (right s.cbs))
-      ∙ ap (λ f. f image) (by_append layout (cbs_of (take n submits)) s.cbs)
-      ∙ leaves (layouts_by b layout (cbs_of (take n submits)))
-    where
-      right : (ys : List ℕ) → ys ++ [] ≡ ys
-      right [] = refl
-      right (y ∷ ys) = ap (λ l. y ∷ l) (right ys)
+  module _ (submits : List Submit) (n : ℕ) (s : Submit) (at : slice_get submits n ≡ Some s) (layout : ℕ → ℕ) (met : AreMet b layout (cbs_of (take (n + 1) submits))) where
+    abbrev parts : (AreMet b layout (cbs_of (take n submits))) × (AreMet b (layouts_by b layout (cbs_of (take n submits))) s.cbs)
+    parts = met_parts layout (cbs_of (take n submits)) s.cbs (subst (AreMet b layout) (cbs_next submits n s at) met)
+
+    pub fewer_submits : AreMet b layout (cbs_of (take n submits))
+    fewer_submits = parts.0
+
+    pub last_submit : (image : ℕ) (known : Option ℕ)
+        → ((layout : ℕ → ℕ) → AreMet b layout s.cbs → layouts_by b layout s.cbs image ≡ unwrap_or known (layout image))
+        → layouts_by b layout (cbs_of (take (n + 1) submits)) image ≡ unwrap_or known (layouts_by b layout (cbs_of (take n submits)) image)
+    last_submit image known leaves =
+        ap (λ l. layouts_by b layout l image) (cbs_next submits n s at)
+        ∙ ap (λ f. f image) (by_append layout (cbs_of (take n submits)) s.cbs)
+        ∙ leaves (layouts_by b layout (cbs_of (take n submits))) parts.1
 
   -- the buffers before the place in its own submit decide
-  pub last_part : (submits : List Submit) (submit at image : ℕ) (left : Option ℕ)
-      → ((layout : ℕ → ℕ) → layouts_by b layout (take at (cbs_at submits submit)) image ≡ unwrap_or left (layout image))
-      → (layout : ℕ → ℕ) → layouts_by b layout (executed_before submits submit at) image ≡ unwrap_or left (layouts_by b layout (cbs_of (take submit submits)) image)
-  last_part submits submit at image left leaves layout =
-      ap (λ f. f image) (by_append layout (cbs_of (take submit submits)) (take at (cbs_at submits submit)))
-      ∙ leaves (layouts_by b layout (cbs_of (take submit submits)))
+  module _ (submits : List Submit) (submit at : ℕ) (layout : ℕ → ℕ) (met : AreMet b layout (executed_before submits submit at)) where
+    abbrev halves : (AreMet b layout (cbs_of (take submit submits))) × (AreMet b (layouts_by b layout (cbs_of (take submit submits))) (take at (cbs_at submits submit)))
+    halves = met_parts layout (cbs_of (take submit submits)) (take at (cbs_at submits submit)) met
 
--- the buffers of its own submit, as they are read
-pub part_of : (b : ℕ → Buffer) (submits : List Submit) (submit : ℕ) (s : Submit) → slice_get submits submit ≡ Some s → (cbs : List ℕ) → cbs ≡ s.cbs
-    → (at image : ℕ) (layout : ℕ → ℕ) → layouts_by b layout (take at (cbs_at submits submit)) image ≡ layouts_by b layout (take at cbs) image
-part_of b submits submit s here cbs is at image layout =
-    ap (λ l. layouts_by b layout (take at l) image) (ap (λ o. option_map_or (λ (s : Submit). s.cbs) o []) here ∙ sym is)
+    pub submits_before : AreMet b layout (cbs_of (take submit submits))
+    submits_before = halves.0
 
--- ---- what the uses say
+    pub last_part : (cbs : List ℕ) → cbs_at submits submit ≡ cbs → (image : ℕ) (known : Option ℕ)
+        → ((layout : ℕ → ℕ) → AreMet b layout (take at cbs) → layouts_by b layout (take at cbs) image ≡ unwrap_or known (layout image))
+        → layouts_by b layout (executed_before submits submit at) image ≡ unwrap_or known (layouts_by b layout (cbs_of (take submit submits)) image)
+    last_part cbs are image known leaves =
+        let before = layouts_by b layout (cbs_of (take submit submits)) in
+        ap (λ f. f image) (by_append layout (cbs_of (take submit submits)) (take at (cbs_at submits submit)))
+        ∙ ap (λ xs. layouts_by b before (take at xs) image) are
+        ∙ leaves before (subst (λ xs. AreMet b before (take at xs)) are halves.1)
 
-module _ (uses : FinMap nat_cmp Use) (agrees : Bool) (named : List ℕ) (asks : List Layouts) (index : IsIndex uses agrees named asks) (layout : ℕ → ℕ) where
-  pub no_layouts : agrees ≡ false → meets layout asks ≡ false
-  no_layouts off = cases (meets layout asks) refl
-    where
-      cases : (t : Bool) → meets layout asks ≡ t → meets layout asks ≡ false
-      cases true e = let a = (index.met layout e).0 in absurd (grind (arith, a, off))
-      cases false e = e
+    -- where the buffer at the place meets its layouts too
+    pub place_more : (cb : ℕ) → slice_get (cbs_at submits submit) at ≡ Some cb
+        → meets (layouts_by b layout (executed_before submits submit at)) (asked_in b cb) ≡ true → AreMet b layout (executed_before submits submit (at + 1))
+    place_more cb here one =
+        let before = cbs_of (take submit submits) in
+        subst (AreMet b layout)
+        (append_assoc before (take at (cbs_at submits submit)) (cb ∷ []) ∙ ap (λ l. before ++ l) (sym (take_next cb (cbs_at submits submit) at here)))
+        (met_more layout (executed_before submits submit at) cb met one)
 
-  pub one_differs : (x : ℕ) → suits (use_of uses x).wanted (layout x) ≡ false → meets layout asks ≡ false
-  one_differs x other = cases (meets layout asks) refl
-    where
-      cases : (t : Bool) → meets layout asks ≡ t → meets layout asks ≡ false
-      cases true e = let s = (index.met layout e).1 x in absurd (grind (arith, s, other))
-      cases false e = e
-
--- an image that isn't named wants nothing
-pub all_suit : (uses : FinMap nat_cmp Use) (layout : ℕ → ℕ) → ((x : ℕ) → is_some (map.get uses x) ≡ true → not (suits (use_of uses x).wanted (layout x)) ≡ false)
-    → (x : ℕ) → suits (use_of uses x).wanted (layout x) ≡ true
-all_suit uses layout all x = cases (map.get uses x) refl
-  where
-    cases : (o : Option Use) → map.get uses x ≡ o → suits (use_of uses x).wanted (layout x) ≡ true
-    cases None e = ap (λ o. suits (unwrap_or o plain).wanted (layout x)) e
-    cases (Some u) e = let h = all x (ap is_some e) in grind (arith, h)
+    -- where the place is behind all buffers of its submit
+    pub submit_more : (s : Submit) → slice_get submits submit ≡ Some s → length (cbs_at submits submit) ≤ at → AreMet b layout (executed_before submits (submit + 1) 0)
+    submit_more s here whole =
+        let before = cbs_of (take submit submits) in
+        subst (AreMet b layout)
+        (ap (λ l. before ++ l) (take_whole (cbs_at submits submit) at whole ∙ part_of submits submit s here s.cbs refl)
+        ∙ sym (cbs_next submits submit s here) ∙ sym (append-nil (cbs_of (take (submit + 1) submits))))
+        met

@@ -1,14 +1,11 @@
 pub mod Spelled
 pub mod Index
+pub mod Cuts
 pub mod Added
 pub mod Counting
 pub mod Buffers
-pub mod Rising
-pub mod Passing
 pub mod Named
-pub mod Running
 pub mod Laid
+pub mod Running
 pub mod Naming
-pub mod Losing
-pub mod Childless
 pub mod Indexed

@@ -1,18 +1,13 @@
 -- The commands of a buffer, one after another.
-use Rattle.std.proofs.Common.{◌≡◌, ℕ, ◌<◌, zero, suc, List, [], ◌∷◌, ◌++◌, length, take, get_or, map, refl, sym, ap, ◌∙◌, arith}
-use Rattle.std.specs.Prelude.{flat_map}
-use Rattle.std.specs.List.{AllByRecursion}
+use Rattle.std.proofs.Common.{◌≡◌, ℕ, ◌+◌, Some, List, [], ◌∷◌, ◌++◌, length, take, append_assoc, map, refl, sym, ap, ◌∙◌, arith}
+use Rattle.std.specs.Prelude.{flat_map, slice_get}
 use Rattle.std.proofs.lemmas.List.{take-append-le, take-take, take_all, length-append}
+use Rattle.gfx_commands.proofs.Added.{flat_map-more}
+use Rattle.gfx_commands.proofs.Laid.{take_next}
 
 pub flat_map-map : {X Y Z : Type 0} (f : Y → List Z) (g : X → Y) (xs : List X) → flat_map f (map g xs) ≡ flat_map (λ x. f (g x)) xs
 flat_map-map f g [] = refl
 flat_map-map f g (x ∷ xs) = ap (λ ys. f (g x) ++ ys) (flat_map-map f g xs)
-
--- what holds of the image of each item holds of that of one
-pub all_mapped_at : {X Y : Type 0} (P : Y → Type 0) (g : X → Y) (xs : List X) (i : ℕ) (d : X) → i < length xs → AllByRecursion P (map g xs) → P (g (get_or xs i d))
-all_mapped_at P g [] i d there all = absurd (omega arith)
-all_mapped_at P g (x ∷ xs) zero d there all = all.0
-all_mapped_at P g (x ∷ xs) (suc i) d there all = all_mapped_at P g xs i d (omega arith) all.1
 
 -- what stood at the front stays there, where what grew behind it stays
 pub front_kept : {X : Type 0} (old mid more new : List X) → mid ≡ old ++ more → take (length mid) new ≡ mid → take (length old) new ≡ old
@@ -21,3 +16,10 @@ front_kept old mid more new grown kept =
     ∙ ap (take (length old)) (kept ∙ grown)
     ∙ take-append-le (length old) old more (omega arith)
     ∙ take_all (length old) old (omega arith)
+
+-- what one more command appends
+pub ops_more : {X Y : Type 0} (f : X → List Y) (xs : List X) (k : ℕ) (x : X) (first old new : List Y) → slice_get xs k ≡ Some x
+    → old ≡ first ++ flat_map f (take k xs) → new ≡ old ++ f x → new ≡ first ++ flat_map f (take (k + 1) xs)
+ops_more f xs k x first old new there was now =
+    now ∙ ap (λ l. l ++ f x) was ∙ append_assoc first (flat_map f (take k xs)) (f x)
+    ∙ ap (λ l. first ++ l) (sym (ap (flat_map f) (take_next x xs k there) ∙ flat_map-more f (take k xs) x))

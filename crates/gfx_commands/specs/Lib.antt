@@ -8,4 +8,4 @@ pub mod Recordings
 pub mod Counted
 pub mod Runnable
 pub mod Distinct
-pub mod Changes
+pub mod Differing

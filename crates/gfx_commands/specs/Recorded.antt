@@ -1,16 +1,24 @@
 -- What a recorded command says.
-use Rattle.std.specs.Prelude.{◌≡◌, Some, unwrap_or}
+use Rattle.std.specs.Prelude.{◌≡◌, ℕ, List, Some, unwrap_or}
 use Rattle.gfx_model.specs.Events.{Event}
 use Rattle.gfx_model.specs.Events.Event.{EndSection}
 use Rattle.gfx_model.specs.Spelling.{spelling}
 use Rattle.gfx_grammar.specs.Rows.{read_call}
 use Rattle.gfx_commands.specs.declared.recorded.Recorded.{Recorded}
 
--- the command whose fields are kept: what is read of them, which is something always
-unfoldable pub event_in : Recorded → Event
-event_in r = unwrap_or (read_call 1 r.call_id r.params) (EndSection 0)
+-- the command of this id with these fields: what is read of them, which is something always
+unfoldable pub event_with : ℕ → List ℕ → Event
+event_with id params = unwrap_or (read_call 1 id params) (EndSection 0)
 
 -- the fields are those of a command, exactly
-pub record IsRecorded (r : Recorded) : Type 0 where
-  pub read : read_call 1 r.call_id r.params ≡ Some (event_in r)
-  pub spelled : r.params ≡ spelling 1 (event_in r)
+pub record AreFields (id : ℕ) (params : List ℕ) : Type 0 where
+  pub read : read_call 1 id params ≡ Some (event_with id params)
+  pub spelled : params ≡ spelling 1 (event_with id params)
+
+-- the command that is recorded
+abbrev pub event_in : Recorded → Event
+event_in r = event_with r.call_id r.params.now
+
+-- its fields are those of a command
+abbrev pub IsRecorded : Recorded → Type 0
+IsRecorded r = AreFields r.call_id r.params.now

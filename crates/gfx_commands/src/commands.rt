@@ -1,18 +1,16 @@
 //! The commands of a buffer, and what is kept beside them so that no byte is read again.
-ghost use Rattle.std.specs.Prelude.{flat_map, ◌≡◌, ◌+◌, ◌<◌, ◌^◌, ◌++◌, ◌∷◌, [], length, slice_get, take, OnOk, OnErr, IfSome};
-ghost use Rattle.std.specs.Option.{option_copied};
-ghost use Rattle.std.specs.List.{list_any, AllByRecursion};
+ghost use Rattle.std.specs.Prelude.{flat_map, ◌≡◌, ◌≤◌, ◌++◌, ◌∷◌, [], length, slice_get, take, option_map, IfOk, OnOk, OnErr, IfSome};
+ghost use Rattle.std.specs.List.{AllByRecursion};
 ghost use Rattle.gfx_model.specs.Events.{event_of_call};
 ghost use Rattle.gfx_model.specs.Spelling.{HasSpelling, spelling};
 ghost use Rattle.gfx_model.specs.Steps.{resources_of};
 ghost use Rattle.gfx_model.specs.Checks.{layouts_of};
-ghost use Rattle.gfx_model.specs.After.{is_lost};
 ghost use Rattle.gfx_objects.specs.Objects.{answers};
 ghost use Rattle.gfx_ops.specs.Operations.{ops_of_command};
 ghost use Rattle.gfx_commands.specs.Runnable.{IsRunnable};
-ghost use Rattle.gfx_commands.specs.Recorded.{IsRecorded};
+ghost use Rattle.gfx_commands.specs.Recorded.{event_in, IsRecorded};
 ghost use Rattle.gfx_commands.specs.Uses.{IsIndex};
-ghost use Rattle.gfx_commands.specs.Commands.{events_in, bytes_of};
+ghost use Rattle.gfx_commands.specs.Commands.{events_in, bytes_of, start_at};
 
 use crate::recorded::Recorded;
 use crate::uses::{Uses, resources_in};
@@ -21,27 +19,34 @@ use gfx_types::{Call, OpList, WantMemory};
 use std::alloc::Global;
 use std::marker::Model;
 
+// A command: the id of its call, and where its fields end among those of all.
+#[derive(Clone, Copy)]
+struct Command {
+    call_id: u32,
+    end: usize,
+}
+
 /// The commands of a buffer in order, how many bytes their fields are, and the uses of the resources that they name.
 #[derive(Drop)]
 pub(crate) struct Commands {
-    items: Vec<Recorded>,
-    bytes: u64,
+    commands: Vec<Command>,
+    // the fields of all commands, one after another
+    fields: Vec<u8>,
     uses: Uses,
 }
 
 impl Model for Commands {
     ghost use Rattle.std.specs.Prelude.{List};
     ghost use Rattle.std.specs.Coded.{coded_list};
-    ghost use Rattle.gfx_commands.specs.declared.recorded.Recorded.{Recorded};
-    ghost use Rattle.gfx_commands.specs.contracts.recorded.Recorded as recorded;
+    ghost use Rattle.gfx_commands.specs.Commands.{Spelled, spelled_code};
 
-    ghost Value = { List Recorded };
+    ghost Value = { List Spelled };
 
-    ghost coded = { coded_list recorded.the_row.coded };
+    ghost coded = { coded_list spelled_code };
 
-    ghost use Rattle.gfx_commands.specs.Inside.{IsKept};
+    ghost use Rattle.gfx_commands.specs.Inside.{IsKept, spelled_in};
 
-    ghost view = { λ c. c.items.items };
+    ghost view = { spelled_in };
 
     ghost invariant = { IsKept };
 }
@@ -52,52 +57,71 @@ impl Commands {
         ensures { result ≡ [] }
     {
         Commands {
-            items: Vec::new(alloc),
-            bytes: 0,
+            commands: Vec::new(alloc),
+            fields: Vec::new(alloc),
             uses: Uses::new(alloc),
         }
+    }
+
+    /// Takes all commands out.
+    pub(crate) fn clear(&mut self)
+        ensures { self.new ≡ [] }
+    {
+        self.commands.clear();
+        self.fields.clear();
+        self.uses.clear();
     }
 
     /// How many commands there are.
     pub(crate) fn len(&self) -> usize
         ensures { result ≡ length (events_in self.now) }
     {
-        self.items.len()
+        self.commands.len()
     }
 
     /// How many bytes the fields of the commands are.
     pub(crate) fn bytes(&self) -> u64
         ensures { result ≡ bytes_of (events_in self.now) }
     {
-        self.bytes
+        self.fields.len() as u64
     }
 
     /// The command at a place, none past the last.
-    pub(crate) fn get(&self, k: u32) -> Option<&Recorded>
-        ensures item { option_copied result ≡ slice_get self.now k }
-        ensures recorded { IfSome result (λ r. IsRecorded r.now) }
+    pub(crate) fn get(&self, k: u32) -> Option<Recorded<'_>>
+        ensures item { option_map event_in result ≡ slice_get (events_in self.now) k }
+        ensures recorded { IfSome result IsRecorded }
     {
-        self.items.get(k as usize)
+        let at = k as usize;
+        let command = self.commands.get(at)?;
+        let start = start_at(&self.commands, at);
+        Some(Recorded {
+            call_id: command.call_id,
+            params: &self.fields[start..command.end],
+        })
     }
 
-    /// Adds a command at the end. After want of memory the commands are as before.
-    pub(crate) fn add(&mut self, alloc: Global, call: &Call<'_>) -> Result<(), WantMemory>
-        requires spelled { HasSpelling 1 (event_of_call call.now) }
-        requires few { bytes_of (events_in self.old) + length (spelling 1 (event_of_call call.now)) < 2 ^ 64 }
+    /// Adds a command at the end, and says how many bytes its fields are. After want of memory the commands are as before.
+    pub(crate) fn add(&mut self, call: &Call<'_>) -> Result<u64, WantMemory>
+        requires { HasSpelling 1 (event_of_call call.now) }
         ensures ok { OnOk result (events_in self.new ≡ events_in self.old ++ event_of_call call.now ∷ []) }
+        ensures bytes { IfOk result (λ bytes. bytes ≡ length (spelling 1 (event_of_call call.now))) }
         ensures err { OnErr result (self.new ≡ self.old) }
     {
-        let recorded = Recorded::of(alloc, call)?;
-        let length = recorded.params.items().len() as u64;
+        let before = self.fields.len();
         let Ok(()) = self.uses.reserve(resources_in(call)) else {
             return Err(WantMemory);
         };
-        let Ok(()) = self.items.push(recorded) else {
+        let Ok(()) = self.commands.reserve(1) else {
             return Err(WantMemory);
         };
-        self.bytes += length;
+        gfx_params::encode(1, call, &mut self.fields)?;
+        gfx_grammar::spelled_is_read();
+        self.commands.push_reserved(Command {
+            call_id: gfx_params::call_id(call),
+            end: self.fields.len(),
+        });
         self.uses.add(call);
-        Ok(())
+        Ok((self.fields.len() - before) as u64)
     }
 
     /// Appends what the commands do to a list of operations. For want of memory the list begins with what it was.
@@ -111,8 +135,14 @@ impl Commands {
         ensures ok { OnOk result (ops.new ≡ ops.old ++ flat_map (ops_of_command (answers objects.now)) (events_in self.now)) }
         ensures err { OnErr result (take (length ops.old) ops.new ≡ ops.old) }
     {
-        'items: for recorded in &self.items {
+        let mut start = 0;
+        'items: for command in &self.commands {
+            let recorded = Recorded {
+                call_id: command.call_id,
+                params: &self.fields[start..command.end],
+            };
             recorded.append_ops(alloc, objects, ops)?;
+            start = command.end;
         }
         Ok(())
     }
@@ -123,4 +153,12 @@ impl Commands {
     {
         &self.uses
     }
+}
+
+// Where the fields of the command at a place start, or where those of all end.
+fn start_at(commands: &[Command], at: usize) -> usize
+    requires { at ≤ length commands.now }
+    ensures { result ≡ start_at 0 commands.now at }
+{
+    if at == 0 { 0 } else { commands[at - 1].end }
 }

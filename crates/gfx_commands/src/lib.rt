@@ -1,10 +1,8 @@
 //! What is recorded in each command buffer.
 #![tactic(auto)]
 
-mod changes;
 mod commands;
 mod layouts;
-mod lost;
 mod recorded;
 mod recording;
 mod recordings;

@@ -1,6 +1,6 @@
 //! What is recorded in one command buffer.
 ghost use Rattle.std.specs.Prelude.{◌≡◌, [], true};
-ghost use Rattle.gfx_model.specs.Questions.{is_kept, is_once, invalidated};
+ghost use Rattle.gfx_model.specs.Questions.{State, is_kept, is_once, invalidated};
 ghost use Rattle.gfx_model.specs.Views.{commands_in, bytes_in};
 ghost use Rattle.gfx_commands.specs.Recording.{state_of, buffer_of};
 
@@ -34,6 +34,15 @@ impl Recording {
             flags,
             commands: Commands::new(alloc),
         }
+    }
+
+    /// Begins to record anew, in the room that there is.
+    pub(crate) fn restart(&mut self, flags: u32)
+        ensures { buffer_of self.new ≡ record { state = State.recording; flags = flags; commands = [] } }
+    {
+        self.state = CbState::Recording;
+        self.flags = flags;
+        self.commands.clear();
     }
 
     /// Whether its commands count: it is recording or executable.

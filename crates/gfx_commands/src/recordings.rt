@@ -1,29 +1,22 @@
 //! What is recorded in all command buffers.
-ghost use Rattle.std.specs.Prelude.{flat_map, ◌≡◌, ℕ, ◌+◌, ◌<◌, ◌≤◌, ◌^◌, ◌==◌, ◌&&◌, ◌++◌, ◌∷◌, [], List, length, sum_by, slice_get, option_map, Some, IsTrue, IsSome, IsNone, IfSome, OnOk, OnErr, true, if◌then◌else◌};
-ghost use Rattle.std.specs.Option.{option_copied};
-ghost use Rattle.std.specs.List.{list_any, AllByRecursion};
-ghost use Rattle.std.specs.FinMap as map;
-ghost use Rattle.gfx_table.specs.Slots.{least_above};
+ghost use Rattle.std.specs.Prelude.{flat_map, ◌≡◌, ℕ, ◌+◌, ◌≤◌, ◌==◌, ◌&&◌, ◌++◌, ◌∷◌, [], List, length, sum_by, slice_get, option_map, Some, IsTrue, IsNone, IfSome, OnOk, OnErr, true, if◌then◌else◌};
+ghost use Rattle.std.specs.List.{AllByRecursion};
 ghost use Rattle.gfx_model.specs.Events.{event_of_call};
 ghost use Rattle.gfx_model.specs.Spelling.{HasSpelling, spelling};
-ghost use Rattle.gfx_model.specs.Questions.{State, new_buffer, is_once, invalidated, passes, is_in_pool};
+ghost use Rattle.gfx_model.specs.Questions.{State, new_buffer, is_once, invalidated};
 ghost use Rattle.gfx_model.specs.Steps.{resources_of};
 ghost use Rattle.gfx_model.specs.Views.{commands_in, bytes_in};
 ghost use Rattle.gfx_model.specs.Checks.{is_recording, is_distinct};
-ghost use Rattle.gfx_model.specs.After.{is_gone, is_lost, buffer_after_end};
 ghost use Rattle.gfx_objects.specs.Objects.{answers};
 ghost use Rattle.gfx_ops.specs.Operations.{ops_of_command};
 ghost use Rattle.gfx_commands.specs.Runnable.{IsRunnable};
-ghost use Rattle.gfx_commands.specs.declared.recording.Recording.{Recording};
 ghost use Rattle.gfx_commands.specs.Recorded.{event_in, IsRecorded};
-ghost use Rattle.gfx_commands.specs.Recording.{state_of, buffer_of, names};
+ghost use Rattle.gfx_commands.specs.Recording.{state_of, names};
 ghost use Rattle.gfx_commands.specs.Uses.{IsIndex};
 ghost use Rattle.gfx_model.specs.Layouts.{asked_in};
 ghost use Rattle.gfx_model.specs.Limits.{max_kept_bytes, max_kept_commands};
 ghost use Rattle.gfx_commands.specs.Recordings.{buffers, commands_total, bytes_total, HoldsKept};
 
-use crate::changes::{BufferChange, ObjectEnd, PoolReset};
-use crate::lost::{is_gone, is_in_pool};
 use crate::recorded::Recorded;
 use crate::recording::CbState;
 use crate::rows::{Rows, Totals};
@@ -56,9 +49,9 @@ impl Model for Recordings {
     ghost use Rattle.gfx_commands.specs.Recordings.{buffers};
     ghost use Rattle.gfx_commands.specs.Users.{AreUsers};
 
-    ghost view = { λ s. s.rows };
+    ghost view = { λ s. s.rows.map };
 
-    ghost invariant = { λ s. AreUsers s.users.table.map (buffers s.rows) };
+    ghost invariant = { λ s. AreUsers s.users.groups.sets.map (buffers s.rows.map) };
 }
 
 impl Recordings {
@@ -94,9 +87,9 @@ impl Recordings {
     }
 
     /// The command of the buffer at this place, none past the last.
-    pub fn command(&self, cb: u64, k: u32) -> Option<&Recorded>
-        ensures item { option_map event_in (option_copied result) ≡ slice_get (buffers self.now cb).commands k }
-        ensures recorded { IfSome result (λ r. IsRecorded r.now) }
+    pub fn command(&self, cb: u64, k: u32) -> Option<Recorded<'_>>
+        ensures item { option_map event_in result ≡ slice_get (buffers self.now cb).commands k }
+        ensures recorded { IfSome result IsRecorded }
     {
         match self.rows.get(cb) {
             Some(row) => row.commands.get(k),
@@ -121,9 +114,11 @@ impl Recordings {
         ensures ok { OnOk result (buffers self.new ≡ (λ x. if cb == x then record { state = State.recording; flags = flags; commands = [] } else buffers self.old x)) }
         ensures err { OnErr result (self.new ≡ self.old) }
     {
-        if let Some(before) = self.rows.begin(cb, flags)? {
-            self.users.forget(cb, before.commands.uses());
+        self.rows.reserve()?;
+        if let Some(row) = self.rows.get(cb) {
+            self.users.forget(cb, row.commands.uses());
         }
+        self.rows.begin(cb, flags);
         Ok(())
     }
 
@@ -136,7 +131,11 @@ impl Recordings {
         ensures ok { OnOk result (buffers self.new ≡ (λ x. if cb == x then record (buffers self.old x) { commands = (buffers self.old x).commands ++ event_of_call call.now ∷ [] } else buffers self.old x)) }
         ensures err { OnErr result (self.new ≡ self.old) }
     {
-        self.users.reserve(cb, call)?;
+        if self.rows.names_all(cb, call) {
+            self.rows.add(cb, call)?;
+            return Ok(());
+        }
+        self.users.reserve(call)?;
         self.rows.add(cb, call)?;
         self.users.insert(cb, call);
         Ok(())
@@ -171,29 +170,11 @@ impl Recordings {
         }
     }
 
-    /// All buffers of the pool are as new ones.
-    pub fn reset_pool(&mut self, pool: u64, objects: &Objects)
-        ensures { buffers self.new ≡ (λ x. if passes (is_in_pool pool) ((answers objects.now).live x) then new_buffer else buffers self.old x) }
-    {
-        if objects.children(pool) > 0 {
-            self.each(&PoolReset { pool, objects });
-        }
-    }
-
     /// Recording and executable buffers that name the resource become invalid.
     pub fn invalidate_users(&mut self, resource: u64)
         ensures { buffers self.new ≡ (λ x. invalidated (names resource (buffers self.old x)) (buffers self.old x)) }
     {
         self.rows.invalidate_users(&self.users, resource);
-    }
-
-    /// What the end of an object makes of all buffers: those that go with it are as new ones, and those that name a
-    /// resource which goes, or the memory under it, are invalid.
-    pub fn end_object(&mut self, gone: u64, objects: &Objects)
-        ensures { buffers self.new ≡ (λ x. if is_gone (answers objects.now) gone x then new_buffer else buffer_after_end (answers objects.now) gone (buffers self.old x)) }
-    {
-        self.rows.invalidate_lost(&self.users, gone, objects);
-        self.reset_gone(gone, objects);
     }
 
     /// Appends what the commands of a buffer do to a list of operations. Each of them breaks no check of its row but
@@ -224,55 +205,6 @@ impl Recordings {
         match self.rows.get(cb) {
             Some(row) => Some(row.commands.uses()),
             None => None,
-        }
-    }
-
-    // Makes a change of each buffer. Any other id is as a new buffer, which stays as it is.
-    fn each<C: BufferChange>(&mut self, change: &C)
-        requires { (x : ℕ) → C.changed change.now x new_buffer ≡ new_buffer }
-        ensures { buffers self.new ≡ (λ x. C.changed change.now x (buffers self.old x)) }
-    {
-        change.make(self, 0);
-        let mut after = 0;
-        'rows: while let Some(cb) = self.next(after) {
-            change.make(self, cb);
-            after = cb;
-        }
-    }
-
-    // The least kept buffer above an id.
-    fn next(&self, after: u64) -> Option<u64>
-        ensures { result ≡ least_above self.now after }
-    {
-        self.rows.next(after)
-    }
-
-    // The buffer is as a new one, where it is of the pool.
-    pub(crate) fn reset_one(&mut self, cb: u64, pool: u64, objects: &Objects)
-        ensures { buffers self.new ≡ (λ x. if cb == x then (if passes (is_in_pool pool) ((answers objects.now).live x) then new_buffer else buffers self.old x) else buffers self.old x) }
-    {
-        if is_in_pool(objects, pool, cb) {
-            self.reset(cb);
-        }
-    }
-
-    // Buffers that go with an object are as new ones.
-    fn reset_gone(&mut self, gone: u64, objects: &Objects)
-        ensures { buffers self.new ≡ (λ x. if is_gone (answers objects.now) gone x then new_buffer else buffers self.old x) }
-    {
-        if objects.children(gone) > 0 {
-            self.each(&ObjectEnd { gone, objects });
-        } else {
-            self.reset_if_gone(gone, gone, objects);
-        }
-    }
-
-    // A buffer that goes with an object is as a new one.
-    pub(crate) fn reset_if_gone(&mut self, cb: u64, gone: u64, objects: &Objects)
-        ensures { buffers self.new ≡ (λ x. if cb == x then (if is_gone (answers objects.now) gone x then new_buffer else buffers self.old x) else buffers self.old x) }
-    {
-        if is_gone(objects, gone, cb) {
-            self.reset(cb);
         }
     }
 }

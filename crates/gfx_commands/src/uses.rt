@@ -1,19 +1,15 @@
 //! What the commands of a buffer ask of each resource that they name.
 ghost use Rattle.std.specs.Prelude.{◌≡◌, ◌+◌, ◌≤◌, ◌++◌, ◌∷◌, [], ℕ, List, true, length, map, is_some, slice_get, OnOk};
-ghost use Rattle.std.specs.List.{list_any};
+ghost use Rattle.std.specs.List.{list_all};
 ghost use Rattle.std.specs.FinMap as finmap;
-ghost use Rattle.gfx_table.specs.Slots.{least_above};
+ghost use Rattle.gfx_table.specs.Dense.{is_listed};
 ghost use Rattle.gfx_model.specs.Events.{event_of_call};
 ghost use Rattle.gfx_model.specs.Steps.{resources_of};
 ghost use Rattle.gfx_model.specs.Checks.{Layouts, layouts_of};
 ghost use Rattle.gfx_model.specs.Checks.Layouts.{stays, goes};
-ghost use Rattle.gfx_model.specs.After.{is_lost};
-ghost use Rattle.gfx_objects.specs.Objects.{answers};
 ghost use Rattle.gfx_commands.specs.Uses.{IsIndex, use_of, known, accepts, asked, lets_go, gone};
 
-use crate::lost::is_lost;
-use gfx_objects::Objects;
-use gfx_table::Table;
+use gfx_table::Dense;
 use gfx_types::{Barrier, Call};
 use std::alloc::{AllocError, Global};
 
@@ -28,13 +24,13 @@ pub(crate) struct Use {
 /// A use for each resource that the commands name, and whether there are layouts with which they can be executed.
 #[derive(Drop)]
 pub(crate) struct Uses {
-    pub(crate) table: Table<Use>,
+    pub(crate) table: Dense<Use>,
     pub(crate) agrees: bool,
 }
 
 impl Use {
     /// The layout that the image has by now, as far as the commands tell.
-    fn known(&self) -> Option<u32>
+    pub(crate) fn known(&self) -> Option<u32>
         ensures { result ≡ known self.now }
     {
         self.left.or(self.wanted)
@@ -92,7 +88,7 @@ impl Uses {
         ensures { IsIndex result.table.map result.agrees [] [] }
     {
         Uses {
-            table: Table::new(alloc),
+            table: Dense::new(alloc),
             agrees: true,
         }
     }
@@ -213,11 +209,34 @@ impl Uses {
         }
     }
 
-    /// The least resource above an id.
-    pub(crate) fn next(&self, after: u64) -> Option<u64>
-        ensures { result ≡ least_above self.now.table.map after }
+    /// The resources that are named, each once.
+    pub(crate) fn ids(&self) -> &[u64]
+        ensures { (id : ℕ) → is_listed id result.now ≡ is_some (finmap.get self.now.table.map id) }
     {
-        self.table.next_above(after)
+        self.table.ids()
+    }
+
+    /// Nothing is asked any more.
+    pub(crate) fn clear(&mut self)
+        ensures { IsIndex self.new.table.map self.new.agrees [] [] }
+    {
+        self.table.clear();
+        self.agrees = true;
+    }
+
+    /// Whether each resource that the command names is named already.
+    pub(crate) fn names_all(&self, call: &Call<'_>) -> bool
+        ensures { result ≡ list_all (λ x. is_some (finmap.get self.now.table.map x)) (resources_of (event_of_call call.now)) }
+    {
+        'resources: for at in 0..resources_in(call) {
+            let Some(resource) = resource_at(call, at) else {
+                unreachable!()
+            };
+            if !self.names(resource) {
+                return false;
+            }
+        }
+        true
     }
 
     /// Whether the resource is named.

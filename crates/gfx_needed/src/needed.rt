@@ -149,18 +149,18 @@ impl NeededIds {
         let _totals = recordings.totals();
         let mut k = 0;
         'commands: while let Some(command) = recordings.command(cb, k) {
-            self.mark_command(tracker, command)?;
+            self.mark_command(tracker, &command)?;
             k += 1;
         }
         Ok(())
     }
 
     // Marks what a command names.
-    fn mark_command(&mut self, tracker: &Tracker, command: &Recorded) -> Result<(), AllocError>
+    fn mark_command(&mut self, tracker: &Tracker, command: &Recorded<'_>) -> Result<(), AllocError>
         requires { IsRecorded command.now }
         ensures { OnOk result (Marks (answers tracker.now) (ids_in (event_in command.now)) self.old self.new) }
     {
-        match decode(self.alloc, 1, command.call_id, command.params.items()) {
+        match decode(self.alloc, 1, command.call_id, command.params) {
             Ok(call) => self.mark_call(tracker, &call),
             Err(ParamFault::BadParams) => unreachable!(),
             Err(ParamFault::WantMemory) => Err(AllocError),

@@ -4,7 +4,7 @@ use Rattle.std.specs.Prelude.{option_and_then, sum_by}
 use Rattle.std.specs.Option.{option_map_or}
 use Rattle.std.specs.Ordering.{nat_cmp}
 use Rattle.std.specs.FinMap as map
-use Rattle.std.specs.FinMap.{FinMap, get-empty, len-empty, len-insert, len-remove, len-entries}
+use Rattle.std.specs.FinMap.{FinMap, find, entries, get-entries, get-empty, len-empty, len-insert, len-remove, len-entries}
 use Rattle.std.specs.Cmp.{nat_cmp_total}
 use Rattle.std.proofs.lemmas.Bool.Decides.{nat_tests}
 use Rattle.gfx_types.specs.declared.names.Kind.{Kind}
@@ -77,8 +77,17 @@ module _ (rows : FinMap nat_cmp Object) (id : ℕ) (o : Object) where
     pub total_removed : (weigh : ℕ → Object → ℕ) → total weigh (map.remove rows id) + weigh id o ≡ total weigh rows
     total_removed weigh = let a = total-remove weigh rows id in let b = its_weight weigh rows id o some in omega (arith, a, b)
 
-    pub len_removed : map.len (map.remove rows id) ≤ map.len rows
-    len_removed = let a = len-remove nat_cmp_total rows id in let b = ap is_some some in grind (arith, a, b)
+    pub len_removed : map.len (map.remove rows id) + 1 ≡ map.len rows
+    len_removed =
+        let a = len-remove nat_cmp_total rows id in
+        let b = ap is_some some in
+        let c = some_entry (entries rows) (sym (get-entries rows id) ∙ some) in
+        let d = len-entries rows in
+        grind (arith, a, b, c, d)
+      where
+        some_entry : (es : List (ℕ × Object)) → find nat_cmp id es ≡ Some o → 1 ≤ length es
+        some_entry [] found = absurd cc
+        some_entry (e ∷ es) found = omega arith
 
     -- ---- a row that is changed
 

@@ -1,5 +1,5 @@
 -- The invariants of the tables after each change.
-use Rattle.std.proofs.Common.{◌≡◌, ℕ, ◌+◌, ◌-◌, ◌<◌, ◌≤◌, ◌^◌, ◌==◌, ◌||◌, Bool, true, false, Option, Some, None, is_some, if◌then◌else◌, refl, ap, subst, sym, ◌∙◌, arith}
+use Rattle.std.proofs.Common.{◌≡◌, ℕ, ◌+◌, ◌-◌, ◌<◌, ◌≤◌, ◌==◌, ◌||◌, Bool, true, false, Option, Some, None, is_some, if◌then◌else◌, refl, ap, subst, sym, ◌∙◌, arith}
 use Rattle.std.specs.Ordering.{nat_cmp}
 use Rattle.std.specs.FinMap as map
 use Rattle.std.specs.FinMap.{FinMap}
@@ -41,12 +41,13 @@ sound_same k n rows used sound = record {
   small = let a = ap bytes_in rows in let b = sound.small in omega (arith, a, b);
 }
 
-pub indexed_same : (m n : FinMap nat_cmp Object) (kinds kinds' : Kind → FinMap nat_cmp (Unit {0})) (children children' : ℕ → ℕ) (bytes : ℕ)
-    → n ≡ m → ((kind : Kind) → kinds' kind ≡ kinds kind) → children' ≡ children → IsIndexed m kinds children bytes → IsIndexed n kinds' children' bytes
-indexed_same m n kinds kinds' children children' bytes rows by_kind by_parent old = record {
+pub indexed_same : (m n : FinMap nat_cmp Object) (kinds kinds' : Kind → FinMap nat_cmp (Unit {0})) (children children' : ℕ → ℕ) (bytes count : ℕ)
+    → n ≡ m → ((kind : Kind) → kinds' kind ≡ kinds kind) → children' ≡ children → IsIndexed m kinds children bytes count → IsIndexed n kinds' children' bytes count
+indexed_same m n kinds kinds' children children' bytes count rows by_kind by_parent old = record {
   by_kind = λ kind. by_kind kind ∙ old.by_kind kind ∙ ap (of_kind kind) (sym rows);
   by_parent = λ parent. ap (λ f. f parent) by_parent ∙ old.by_parent parent ∙ ap (λ m. children_in m parent) (sym rows);
   in_all = old.in_all ∙ ap bytes_in (sym rows);
+  in_number = old.in_number ∙ ap map.len (sym rows);
 }
 
 -- ---- a new row
@@ -139,12 +140,12 @@ module _ (k n : Kept) (id : ℕ) (o : Object) (rows : n.rows ≡ map.insert k.ro
           let here : id ≡ other → holds k.used other ≡ true = λ p. rw (sym p) was in
           grind (arith, nat_tests, u, here)
 
-module _ (m n : FinMap nat_cmp Object) (kinds kinds' : Kind → FinMap nat_cmp (Unit {0})) (children children' : ℕ → ℕ) (bytes bytes' : ℕ) (id : ℕ) (o : Object) where
+module _ (m n : FinMap nat_cmp Object) (kinds kinds' : Kind → FinMap nat_cmp (Unit {0})) (children children' : ℕ → ℕ) (bytes bytes' count count' : ℕ) (id : ℕ) (o : Object) where
   pub indexed_created : n ≡ map.insert m id o → map.get m id ≡ None
       → ((kind : Kind) → kinds' kind ≡ (if kind_number o.kind == kind_number kind then map.insert (kinds kind) id tt else kinds kind))
-      → children' ≡ (λ q. if o.parent == q then children q + 1 else children q) → bytes' ≡ bytes + detail_bytes (detail_of o.detail)
-      → IsIndexed m kinds children bytes → IsIndexed n kinds' children' bytes'
-  indexed_created rows none by_kind by_parent in_all old = record {
+      → children' ≡ (λ q. if o.parent == q then children q + 1 else children q) → bytes' ≡ bytes + detail_bytes (detail_of o.detail) → count' ≡ count + 1
+      → IsIndexed m kinds children bytes count → IsIndexed n kinds' children' bytes' count'
+  indexed_created rows none by_kind by_parent in_all in_number old = record {
     by_kind = λ kind.
         by_kind kind ∙ ap (λ t. if kind_number o.kind == kind_number kind then map.insert t id tt else t) (old.by_kind kind)
         ∙ kind_created m id o none kind ∙ ap (of_kind kind) (sym rows);
@@ -159,13 +160,18 @@ module _ (m n : FinMap nat_cmp Object) (kinds kinds' : Kind → FinMap nat_cmp (
         let is = ap bytes_in rows in
         let total = total_created m id o none (λ id o. detail_bytes (detail_of o.detail)) in
         omega (arith, in_all, before, is, total);
+    in_number =
+        let before = old.in_number in
+        let is = ap map.len rows in
+        let more = len_created m id o none in
+        omega (arith, in_number, before, is, more);
   }
 
   pub indexed_removed : n ≡ map.remove m id → map.get m id ≡ Some o
       → ((kind : Kind) → kinds' kind ≡ (if kind_number o.kind == kind_number kind then map.remove (kinds kind) id else kinds kind))
-      → children' ≡ (λ q. if o.parent == q then children q - 1 else children q) → bytes' ≡ bytes - detail_bytes (detail_of o.detail)
-      → IsIndexed m kinds children bytes → IsIndexed n kinds' children' bytes'
-  indexed_removed rows some by_kind by_parent in_all old = record {
+      → children' ≡ (λ q. if o.parent == q then children q - 1 else children q) → bytes' ≡ bytes - detail_bytes (detail_of o.detail) → count' ≡ count - 1
+      → IsIndexed m kinds children bytes count → IsIndexed n kinds' children' bytes' count'
+  indexed_removed rows some by_kind by_parent in_all in_number old = record {
     by_kind = λ kind.
         by_kind kind ∙ ap (λ t. if kind_number o.kind == kind_number kind then map.remove t id else t) (old.by_kind kind)
         ∙ kind_removed m id o some kind ∙ ap (of_kind kind) (sym rows);
@@ -180,17 +186,23 @@ module _ (m n : FinMap nat_cmp Object) (kinds kinds' : Kind → FinMap nat_cmp (
         let is = ap bytes_in rows in
         let total = total_removed m id o some (λ id o. detail_bytes (detail_of o.detail)) in
         omega (arith, in_all, before, is, total);
+    in_number =
+        let before = old.in_number in
+        let is = ap map.len rows in
+        let less = len_removed m id o some in
+        omega (arith, in_number, before, is, less);
   }
 
-pub indexed_changed : (m n : FinMap nat_cmp Object) (kinds : Kind → FinMap nat_cmp (Unit {0})) (children : ℕ → ℕ) (bytes id : ℕ) (o changed : Object)
+pub indexed_changed : (m n : FinMap nat_cmp Object) (kinds : Kind → FinMap nat_cmp (Unit {0})) (children : ℕ → ℕ) (bytes count id : ℕ) (o changed : Object)
     → n ≡ map.insert m id changed → map.get m id ≡ Some o → changed.kind ≡ o.kind → changed.parent ≡ o.parent
-    → detail_bytes (detail_of changed.detail) ≡ detail_bytes (detail_of o.detail) → IsIndexed m kinds children bytes → IsIndexed n kinds children bytes
-indexed_changed m n kinds children bytes id o changed rows some kind parent same old = record {
+    → detail_bytes (detail_of changed.detail) ≡ detail_bytes (detail_of o.detail) → IsIndexed m kinds children bytes count → IsIndexed n kinds children bytes count
+indexed_changed m n kinds children bytes count id o changed rows some kind parent same old = record {
   by_kind = λ kind'. old.by_kind kind' ∙ kind_changed m id o some changed kind kind' ∙ ap (of_kind kind') (sym rows);
   by_parent = λ p.
       old.by_parent p ∙ sym (total_changed m id o some changed (λ id o. if o.parent == p then 1 else 0) (ap (λ q. if q == p then 1 else 0) parent))
       ∙ ap (λ m. children_in m p) (sym rows);
   in_all = old.in_all ∙ sym (total_changed m id o some changed (λ id o. detail_bytes (detail_of o.detail)) same) ∙ ap bytes_in (sym rows);
+  in_number = old.in_number ∙ sym (len_changed m id o some changed) ∙ ap map.len (sym rows);
 }
 
 pub sound_removed : (k n : Kept) (id : ℕ) (o : Object) → n.rows ≡ map.remove k.rows id → map.get k.rows id ≡ Some o → n.used ≡ k.used → IsSound k → IsSound n

@@ -1,5 +1,5 @@
 -- Where bound resources end, and that their windows end within the limit on live bytes.
-use Rattle.std.proofs.Common.{◌≡◌, ℕ, ◌+◌, ◌*◌, ◌≤◌, ◌^◌, ◌&&◌, ◌==◌, Bool, true, false, IsTrue, refl, sym, ap, subst, ◌∙◌, Option, Some, None, is_some, cond, nat_le, arith}
+use Rattle.std.proofs.Common.{◌≡◌, ℕ, ◌+◌, ◌*◌, ◌≤◌, ◌==◌, Bool, true, false, IsTrue, refl, sym, ap, subst, ◌∙◌, Option, Some, None, is_some, cond, nat_le, arith}
 use Rattle.std.specs.Prelude.{option_map, unwrap_or, IfSome}
 use Rattle.std.specs.Option.{option_map_or}
 use Rattle.std.specs.FinMap as map
@@ -10,8 +10,7 @@ use Rattle.gfx_types.specs.Names.{format_of, texel_of}
 use Rattle.gfx_types.specs.declared.names.Format.{Format}
 use Rattle.gfx_types.specs.declared.names.Kind.TheVariants as kind
 use Rattle.gfx_types.specs.declared.op.Place.TheVariants as place
-use Rattle.gfx_table.specs.Used.{holds}
-use Rattle.gfx_model.specs.Steps.{Detail as Parameters, Object as Made, kind_of, kind_number}
+use Rattle.gfx_model.specs.Steps.{Detail as Parameters, kind_of, kind_number}
 use Rattle.gfx_model.specs.Steps.Detail.{a_memory, a_buffer, an_image}
 use Rattle.gfx_model.specs.Questions.{Binding, passes, image_size, texel_size}
 use Rattle.gfx_model.specs.Views.{Window as Shown, is_live, window, size_of, detail_size, detail_window, bound_window, detail_bytes}

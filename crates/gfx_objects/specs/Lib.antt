@@ -3,3 +3,4 @@ pub mod Kinds
 pub mod Children
 pub mod Objects
 pub mod Inside
+pub mod Least

@@ -1,12 +1,11 @@
 -- What a row says of its object, in the words of the capture's questions.
-use Rattle.std.specs.Prelude.{ℕ, ◌==◌, nat_le, Bool, true, false, ◌&&◌, ◌≡◌, Option, None, option_map}
+use Rattle.std.specs.Prelude.{ℕ, ◌==◌, nat_le, Bool, true, false, ◌&&◌, ◌≡◌, Option, Some, None, option_map, if◌then◌else◌}
 use Rattle.gfx_objects.specs.declared.object.Object.{Object}
 use Rattle.gfx_objects.specs.declared.object.Binding.{Binding}
 use Rattle.gfx_objects.specs.declared.object.Window.{Window}
 use Rattle.gfx_objects.specs.declared.object.Detail.{Detail}
 use Rattle.gfx_objects.specs.declared.object.Detail.TheVariants as declared
-use Rattle.gfx_types.specs.declared.names.Kind.{Kind}
-use Rattle.gfx_model.specs.Steps.{Detail as Parameters, Object as Made, kind_of, kind_number}
+use Rattle.gfx_model.specs.Steps.{Detail as Parameters, Object as Made}
 use Rattle.gfx_model.specs.Steps.Detail.{an_instance, a_surface, a_device, a_queue, a_memory, a_buffer, an_image, a_pool, a_command_buffer, a_fence, a_semaphore, a_swapchain}
 use Rattle.gfx_model.specs.Questions.{Binding as Bound, Range, is_owned, range_of}
 use Rattle.gfx_model.specs.Views.{Window as Shown}
@@ -40,6 +39,10 @@ abbrev pub bound_of : Detail → Option Bound
 bound_of (declared.Buffer size usage bound) = option_map binding_of bound
 bound_of (declared.Image format width height usage layout bound index) = option_map binding_of bound
 bound_of _ = None
+
+-- the memory to which a resource is bound
+abbrev pub memory_of : Detail → Option ℕ
+memory_of d = option_map (λ b. b.memory) (bound_of d)
 
 -- the mapped range of a memory
 abbrev pub mapped_of : Detail → Option Range
@@ -87,6 +90,11 @@ is_memory _ = false
 abbrev pub is_owned_by : ℕ → Object → Bool
 is_owned_by owner o = is_owned (detail_of o.detail) && owner == o.parent
 
--- the object is of the kind, and owned by this one
-abbrev pub is_owned_row : ℕ → Kind → Object → Bool
-is_owned_row owner kind o = kind_number (kind_of (detail_of o.detail)) == kind_number kind && is_owned_by owner o
+-- the object that owns this one
+abbrev pub owner_of : Object → Option ℕ
+owner_of o = if is_owned (detail_of o.detail) then Some o.parent else None
+
+-- the surface of a swapchain
+abbrev pub surface_of : Parameters → Option ℕ
+surface_of (a_swapchain surface images format width height usage) = Some surface
+surface_of _ = None

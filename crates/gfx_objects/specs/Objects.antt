@@ -1,8 +1,9 @@
 -- What is kept of all objects, and what it answers to the questions of a capture.
-use Rattle.std.specs.Prelude.{◌≡◌, ℕ, ◌+◌, ◌<◌, ◌≤◌, ◌==◌, ◌^◌, nat_lt, ◌&&◌, true, false, find, Option, Some, None, is_some, option_map, option_and_then, if◌then◌else◌, refl}
+use Rattle.std.specs.Prelude.{◌≡◌, ℕ, ◌+◌, ◌<◌, ◌≤◌, ◌==◌, nat_lt, ◌&&◌, Bool, true, false, find, Option, Some, None, is_some, option_map, option_and_then, if◌then◌else◌, refl}
 use Rattle.std.specs.Option.{option_map_or}
 use Rattle.std.specs.Ordering.{nat_cmp}
 use Rattle.std.specs.Coded.{Coded, code_by, coded×, coded_ℕ}
+use base.Stored.{coded_unit}
 use Rattle.std.specs.FinMap as map
 use Rattle.std.specs.FinMap.{FinMap}
 use Rattle.gfx_types.specs.declared.names.Kind.{Kind}
@@ -15,22 +16,26 @@ use Rattle.gfx_model.specs.Questions.{Binding, new_buffer}
 use Rattle.gfx_model.specs.Views.{View, is_live, detail_size, detail_bytes}
 use Rattle.gfx_model.specs.Limits.{max_live_bytes, max_live_objects}
 use Rattle.gfx_objects.specs.declared.object.Object.{Object}
-use Rattle.gfx_objects.specs.Object.{made, detail_of, bound_of, mapped_of, layout_of, is_within}
+use Rattle.gfx_objects.specs.Object.{made, detail_of, bound_of, mapped_of, layout_of, is_within, is_owned_by, owner_of, memory_of, surface_of}
+use Rattle.gfx_objects.specs.Children.{is_at}
 
--- the rows, the used ids and the reserved room
+-- the rows, the used ids, the sets of what is owned and the reserved room
 pub record Kept : Type 0 where
   -- the live objects by their ids
   pub rows : FinMap nat_cmp Object
   -- the set of all ids that were ever used
   pub used : Slots ℕ
+  -- under each id the set of what it owns
+  pub owned : FinMap nat_cmp (Slots (Unit {0}))
   -- how many creations there is room for
   pub spare : ℕ
 
--- how the logic stores it, as the triple of its fields
+-- how the logic stores it, as its fields in a row
 abbrev pub kept_code : Coded Object → Coded Kept
 kept_code code =
-    code_by (FinMap nat_cmp Object × (Slots ℕ × ℕ)) (coded× (map.code coded_ℕ code) (coded× (slots_code coded_ℕ) coded_ℕ))
-    (λ k. (k.rows, (k.used, k.spare))) (λ p. record { rows = p.0; used = p.1.0; spare = p.1.1 }) (λ _. refl)
+    code_by (FinMap nat_cmp Object × (Slots ℕ × (FinMap nat_cmp (Slots (Unit {0})) × ℕ)))
+    (coded× (map.code coded_ℕ code) (coded× (slots_code coded_ℕ) (coded× (map.code coded_ℕ (slots_code coded_unit)) coded_ℕ)))
+    (λ k. (k.rows, (k.used, (k.owned, k.spare)))) (λ p. record { rows = p.0; used = p.1.0; owned = p.1.1.0; spare = p.1.1.1 }) (λ _. refl)
 
 -- What the rows answer. Commands, signals, acquired images and frames are kept elsewhere: they are plain here.
 unfoldable pub answers : Kept → View
@@ -82,6 +87,14 @@ mark kind id o = if kind_number o.kind == kind_number kind then Some tt else Non
 abbrev pub of_kind : Kind → FinMap nat_cmp Object → FinMap nat_cmp (Unit {0})
 of_kind kind = with_rows (mark kind)
 
+-- the mark of a row that an object owns
+abbrev pub owner_mark : ℕ → ℕ → Object → Option (Unit {0})
+owner_mark owner id o = if is_owned_by owner o then Some tt else None
+
+-- the ids of the rows that an object owns
+abbrev pub of_owner : ℕ → FinMap nat_cmp Object → FinMap nat_cmp (Unit {0})
+of_owner owner = with_rows (owner_mark owner)
+
 -- how many rows have this parent
 abbrev pub children_in : FinMap nat_cmp Object → ℕ → ℕ
 children_in rows parent = total (λ id o. if o.parent == parent then 1 else 0) rows
@@ -90,8 +103,23 @@ children_in rows parent = total (λ id o. if o.parent == parent then 1 else 0) r
 abbrev pub bytes_in : FinMap nat_cmp Object → ℕ
 bytes_in rows = total (λ id o. detail_bytes (detail_of o.detail)) rows
 
--- the ids by kind, the counts of children and the bytes are those of the rows
-pub record IsIndexed (rows : FinMap nat_cmp Object) (kinds : Kind → FinMap nat_cmp (Unit {0})) (children : ℕ → ℕ) (bytes : ℕ) : Type 0 where
+-- the ids by kind, the counts of children, the bytes and the number are those of the rows
+pub record IsIndexed (rows : FinMap nat_cmp Object) (kinds : Kind → FinMap nat_cmp (Unit {0})) (children : ℕ → ℕ) (bytes count : ℕ) : Type 0 where
   pub by_kind : (kind : Kind) → kinds kind ≡ of_kind kind rows
   pub by_parent : (parent : ℕ) → children parent ≡ children_in rows parent
   pub in_all : bytes ≡ bytes_in rows
+  pub in_number : count ≡ map.len rows
+
+-- under each group stand the ids of the rows that are of it
+abbrev pub AreGrouped : (Object → Option ℕ) → FinMap nat_cmp Object → (ℕ → ℕ → Bool) → Type 0
+AreGrouped group_of rows members = (group id : ℕ) → members group id ≡ is_at group (option_and_then group_of (map.get rows id))
+
+-- how many rows are of this group
+abbrev pub count_in : (Object → Option ℕ) → FinMap nat_cmp Object → ℕ → ℕ
+count_in group_of rows group = total (λ id o. if is_at group (group_of o) then 1 else 0) rows
+
+-- what each object owns, what rests on each memory, and the numbers of swapchains on surfaces are those of the rows
+pub record IsGrouped (rows : FinMap nat_cmp Object) (owned resting : ℕ → ℕ → Bool) (swapchains : ℕ → ℕ) : Type 0 where
+  pub by_owner : AreGrouped owner_of rows owned
+  pub by_memory : AreGrouped (λ o. memory_of o.detail) rows resting
+  pub by_surface : (surface : ℕ) → swapchains surface ≡ count_in (λ o. surface_of (detail_of o.detail)) rows surface

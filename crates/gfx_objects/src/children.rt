@@ -1,14 +1,14 @@
 //! How many children each object has.
-ghost use Rattle.std.specs.Prelude.{◌≡◌, ◌+◌, ◌-◌, ◌<◌, ◌≤◌, ◌^◌, ◌==◌, OnOk, if◌then◌else◌};
-ghost use Rattle.gfx_objects.specs.Children.{count_of};
+ghost use Rattle.std.specs.Prelude.{◌≡◌, ℕ, Some, ◌+◌, ◌-◌, ◌<◌, ◌≤◌, ◌^◌, ◌==◌, OnOk, if◌then◌else◌};
+ghost use Rattle.gfx_objects.specs.Children.{is_at, count_of};
 
-use gfx_table::Table;
+use gfx_table::Slotted;
 use std::alloc::{AllocError, Global};
 
 /// The number of children by the id of the parent. An object without children takes no place.
 #[derive(Drop)]
 pub(crate) struct ChildCounts {
-    counts: Table<u32>,
+    counts: Slotted<u32>,
 }
 
 impl ChildCounts {
@@ -17,7 +17,7 @@ impl ChildCounts {
         ensures { count_of result.counts.map ≡ (λ parent. 0) }
     {
         ChildCounts {
-            counts: Table::new(alloc),
+            counts: Slotted::new(alloc),
         }
     }
 
@@ -58,6 +58,28 @@ impl ChildCounts {
             let _count = self.counts.remove(parent);
         } else {
             self.counts.set(parent, count - 1);
+        }
+    }
+
+    /// Counts one child more, where there is a parent.
+    pub(crate) fn add_to(&mut self, parent: Option<u64>)
+        requires room { 1 ≤ self.old.counts.spare }
+        requires few { (p : ℕ) → parent ≡ Some p → count_of self.old.counts.map p + 1 < 2 ^ 32 }
+        ensures counts { (p : ℕ) → count_of self.new.counts.map p ≡ count_of self.old.counts.map p + (if is_at p parent then 1 else 0) }
+        ensures room { self.old.counts.spare ≤ self.new.counts.spare + 1 }
+    {
+        if let Some(parent) = parent {
+            self.add(parent);
+        }
+    }
+
+    /// Counts one child less, where there is a parent.
+    pub(crate) fn remove_from(&mut self, parent: Option<u64>)
+        ensures counts { (p : ℕ) → count_of self.new.counts.map p ≡ count_of self.old.counts.map p - (if is_at p parent then 1 else 0) }
+        ensures room { self.old.counts.spare ≤ self.new.counts.spare }
+    {
+        if let Some(parent) = parent {
+            self.remove(parent);
         }
     }
 }

@@ -3,7 +3,7 @@ ghost use Rattle.std.specs.Prelude.{◌≡◌, IsTrue, true, is_some, option_map
 ghost use Rattle.gfx_model.specs.Questions.{is_owned, range_of};
 ghost use Rattle.gfx_model.specs.Views as view;
 ghost use Rattle.gfx_model.specs.Checks as words;
-ghost use Rattle.gfx_objects.specs.Object.{detail_of, bound_of, mapped_of, layout_of, is_within};
+ghost use Rattle.gfx_objects.specs.Object.{detail_of, bound_of, memory_of, mapped_of, layout_of, surface_of, is_within};
 
 use crate::object::Detail;
 use gfx_types::{MapRange, image_size};
@@ -181,6 +181,33 @@ impl Detail {
             Detail::Queue | Detail::CommandBuffer => true,
             Detail::Image { index, .. } => index.is_some(),
             _ => false,
+        }
+    }
+
+    /// The memory to which a buffer or an image is bound.
+    pub(crate) fn memory(&self) -> Option<u64>
+        ensures { result ≡ memory_of self.now }
+    {
+        match *self {
+            Detail::Buffer {
+                bound: Some(bound),
+                ..
+            } => Some(bound.memory),
+            Detail::Image {
+                bound: Some(bound),
+                ..
+            } => Some(bound.memory),
+            _ => None,
+        }
+    }
+
+    /// The surface of a swapchain.
+    pub(crate) fn surface(&self) -> Option<u64>
+        ensures { result ≡ surface_of (detail_of self.now) }
+    {
+        match *self {
+            Detail::Swapchain { surface, .. } => Some(surface),
+            _ => None,
         }
     }
 }

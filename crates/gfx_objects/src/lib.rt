@@ -4,9 +4,11 @@
 mod children;
 mod detail;
 mod kinds;
+mod least;
 mod object;
 mod objects;
 mod questions;
+mod tables;
 
 pub use gfx_types::MapRange;
 pub use object::{Binding, Detail, Object, Window};

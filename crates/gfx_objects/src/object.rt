@@ -4,7 +4,7 @@ ghost use Rattle.std.specs.Prelude.{◌≡◌, IsTrue, option_map, if◌then◌e
 ghost use Rattle.gfx_model.specs.Steps.{kind_of};
 ghost use Rattle.gfx_model.specs.Questions.{range_of};
 ghost use Rattle.gfx_model.specs.Views.{detail_bytes};
-ghost use Rattle.gfx_objects.specs.Object.{detail_of, bound_of, mapped_of, layout_of, binding_of, is_within, is_resource, is_image, is_memory};
+ghost use Rattle.gfx_objects.specs.Object.{detail_of, owner_of, bound_of, mapped_of, layout_of, binding_of, is_within, is_resource, is_image, is_memory};
 
 use gfx_types::{Kind, MapRange, Place, image_size};
 
@@ -76,6 +76,19 @@ pub struct Window {
     pub place: Place,
     pub offset: u64,
     pub length: u64,
+}
+
+impl Object {
+    /// The object that owns this one.
+    pub(crate) fn owner(&self) -> Option<u64>
+        ensures { result ≡ owner_of self.now }
+    {
+        if self.detail.is_owned() {
+            Some(self.parent)
+        } else {
+            None
+        }
+    }
 }
 
 impl Detail {

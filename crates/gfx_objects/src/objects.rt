@@ -1,8 +1,7 @@
 //! The live objects, and all ids that were ever used.
-ghost use Rattle.std.specs.Prelude.{◌≡◌, ℕ, ◌+◌, ◌-◌, ◌<◌, ◌≤◌, ◌^◌, ◌==◌, ◌||◌, [], not, false, Some, None, IsTrue, IsSome, IfSome, OnOk, OnErr, option_map, if◌then◌else◌};
-ghost use Rattle.std.specs.Option.{option_copied, option_map_or};
+ghost use Rattle.std.specs.Prelude.{◌≡◌, ℕ, ◌+◌, ◌-◌, ◌<◌, ◌≤◌, ◌^◌, ◌==◌, ◌&&◌, ◌||◌, [], true, false, Some, None, IsTrue, IsSome, IfSome, OnOk, OnErr, option_map, if◌then◌else◌};
+ghost use Rattle.std.specs.Option.{option_copied};
 ghost use Rattle.std.specs.FinMap as map;
-ghost use Rattle.gfx_types.specs.declared.names.Kind.{Kind};
 ghost use Rattle.gfx_types.specs.declared.names.Kind.TheVariants as kind;
 ghost use Rattle.gfx_model.specs.Steps.Step.{creates, ends, binds, maps, unmaps, changes};
 ghost use Rattle.gfx_model.specs.Steps.Change.{set_layout};
@@ -11,28 +10,41 @@ ghost use Rattle.gfx_model.specs.Views as view;
 ghost use Rattle.gfx_model.specs.After.{after};
 ghost use Rattle.gfx_model.specs.Limits.{max_live_bytes, max_live_objects};
 ghost use Rattle.gfx_table.specs.Used.{holds};
-ghost use Rattle.gfx_table.specs.Values.{kept_rows};
-ghost use Rattle.gfx_objects.specs.Children.{count_of};
-ghost use Rattle.gfx_objects.specs.Kinds.{ids_of, room_of};
-ghost use Rattle.gfx_objects.specs.Object.{made, detail_of, bound_of, window_of, binding_of, IsNew, is_within, is_owned_by, is_owned_row};
-ghost use Rattle.gfx_objects.specs.Objects.{answers, next_of, IsRow, RestsIn, IsSound, bytes_in};
+ghost use Rattle.gfx_table.specs.Dense.{is_listed};
+ghost use Rattle.gfx_table.specs.Slots.{least_above};
+ghost use Rattle.gfx_table.specs.Groups.{room_in};
+ghost use Rattle.gfx_objects.specs.Object.{made, detail_of, bound_of, memory_of, IsNew, is_within};
+ghost use Rattle.gfx_objects.specs.Objects.{answers, next_of, of_owner, IsRow, RestsIn, IsSound, bytes_in};
 
 use crate::children::ChildCounts;
 use crate::kinds::{KindIds, number_of};
-use crate::object::{Binding, Detail, Object, Window};
-use gfx_table::{Table, UsedIds};
-use gfx_types::{Kind, MapRange, Place, WantMemory, image_size};
-use std::alloc::{AllocError, Global};
+use crate::least::least_of;
+use crate::object::{Binding, Detail, Object};
+use crate::tables::{move_to, put_in, reserve_each, take_from};
+use gfx_table::{Groups, Slotted, UsedIds};
+use gfx_types::{Kind, MapRange, WantMemory};
+use std::alloc::Global;
 use std::marker::Model;
+
+// So many creations are made room for at once.
+const AHEAD: u32 = 64;
 
 /// The live objects of a capture, and all ids that were ever used.
 #[derive(Drop)]
 pub struct Objects {
-    rows: Table<Object>,
+    rows: Slotted<Object>,
     used: UsedIds,
     kinds: KindIds,
     children: ChildCounts,
+    // the live swapchains on each surface
+    swapchains: ChildCounts,
+    // what each object owns
+    owned: Groups,
+    // the resources that are bound to each memory
+    resting: Groups,
     bytes: u64,
+    // how many objects are live
+    count: u32,
     // how many creations there is room for
     room: u32,
 }
@@ -59,11 +71,15 @@ impl Objects {
         ensures plain { answers result ≡ record (view.view_of []) { is_empty = false } }
     {
         Objects {
-            rows: Table::new(alloc),
+            rows: Slotted::new(alloc),
             used: UsedIds::new(alloc),
             kinds: KindIds::new(alloc),
             children: ChildCounts::new(alloc),
+            swapchains: ChildCounts::new(alloc),
+            owned: Groups::new(alloc),
+            resting: Groups::new(alloc),
             bytes: 0,
+            count: 0,
             room: 0,
         }
     }
@@ -107,7 +123,28 @@ impl Objects {
         ensures count { result ≡ view.object_count (answers self.now) }
         ensures sound { IsSound self.now }
     {
-        self.rows.len() as u32
+        self.count
+    }
+
+    /// What the object owns: the queue of a device, the command buffers of a pool, the fetched images of a swapchain.
+    pub fn owned(&self, id: u64) -> &[u64]
+        ensures { (x : ℕ) → is_listed x result.now ≡ asked.passes (λ o. asked.is_owned o.detail && id == o.parent) ((answers self.now).live x) }
+    {
+        self.owned.members(id)
+    }
+
+    /// The live buffers and images that are bound to the memory.
+    pub fn resting(&self, memory: u64) -> &[u64]
+        ensures { (x : ℕ) → is_listed x result.now ≡ asked.rests_on memory ((answers self.now).bound x) }
+    {
+        self.resting.members(memory)
+    }
+
+    /// Whether a live swapchain was created on this surface.
+    pub fn has_swapchain(&self, surface: u64) -> bool
+        ensures { result ≡ view.has_swapchain (answers self.now) surface }
+    {
+        self.swapchains.get(surface) > 0
     }
 
     /// The bytes of live memory and of images of live swapchains.
@@ -125,27 +162,47 @@ impl Objects {
         self.kinds.next(kind, after)
     }
 
-    /// Makes room for so many creations. For want of memory there is the room that there was, or more.
-    pub fn reserve(&mut self, n: u32) -> Result<(), WantMemory>
+    /// The least id above the given one among what the object owns.
+    pub fn next_owned(&self, owner: u64, after: u64) -> Option<u64>
+        ensures least { result ≡ least_above (of_owner owner self.now.rows) after }
+        ensures sound { IsSound self.now }
+    {
+        least_of(self.owned.members(owner), after)
+    }
+
+    /// Makes room for so many creations, and for as many in what the parent owns. For want of memory there is the room that
+    /// there was, or more.
+    pub fn reserve(&mut self, n: u32, parent: u64) -> Result<(), WantMemory>
         ensures same { answers self.new ≡ answers self.old }
         ensures rows { self.new.rows ≡ self.old.rows }
         ensures ok { OnOk result (n ≤ self.new.spare) }
         ensures spare { self.old.spare ≤ self.new.spare }
+        ensures room { OnOk result (n ≤ room_in self.new.owned parent) }
+        ensures rooms { (x : ℕ) → room_in self.old.owned x ≤ room_in self.new.owned x }
     {
+        if self.owned.reserve(parent, n as usize).is_err() {
+            return Err(WantMemory);
+        }
+        if self.room >= n {
+            return Ok(());
+        }
+        let room = n.max(AHEAD);
         let Ok(()) = reserve_each(
             &mut self.rows,
             &mut self.used,
             &mut self.kinds,
             &mut self.children,
-            n as usize,
+            &mut self.swapchains,
+            room as usize,
         ) else {
             return Err(WantMemory);
         };
-        self.room = self.room.max(n);
+        self.room = room;
         Ok(())
     }
 
-    /// Creates an object, which takes one of the spare places. Its id is new, and there is room for it.
+    /// Creates an object, which takes one of the spare places. Its id is new, and there is room for it, also in what its
+    /// parent owns, where it is owned.
     pub fn create(&mut self, id: u64, parent: u64, detail: Detail)
         requires not_zero { 0 < id }
         requires unused { (answers self.old).used id ≡ false }
@@ -154,8 +211,10 @@ impl Objects {
         requires room { view.object_count (answers self.old) < max_live_objects }
         requires bytes { view.live_bytes (answers self.old) + view.detail_bytes (detail_of detail) ≤ max_live_bytes }
         requires spare { 1 ≤ self.old.spare }
+        requires owner { asked.is_owned (detail_of detail) ≡ true → 1 ≤ room_in self.old.owned parent }
         ensures step { answers self.new ≡ after (answers self.old) (creates id parent (detail_of detail)) }
         ensures spare { self.new.spare + 1 ≡ self.old.spare }
+        ensures rooms { (x : ℕ) → room_in self.old.owned x ≤ room_in self.new.owned x + (if parent == x then 1 else 0) }
     {
         self.add(Object {
             id,
@@ -165,18 +224,21 @@ impl Objects {
         });
     }
 
-    /// Binds a live buffer or image to a live memory, at an offset in bytes from which it ends inside the memory.
-    pub fn bind(&mut self, id: u64, memory: u64, offset: u64)
+    /// Binds a live buffer or image to a live memory, at an offset in bytes from which it ends inside the memory. For want of
+    /// memory nothing is bound.
+    pub fn bind(&mut self, id: u64, memory: u64, offset: u64) -> Result<(), WantMemory>
         requires resource { IsTrue (view.is_live (answers self.old) kind.Buffer id || view.is_live (answers self.old) kind.Image id) }
         requires memory { IsTrue (view.is_live (answers self.old) kind.Memory memory) }
         requires inside { offset + view.size_of (answers self.old) id ≤ view.size_of (answers self.old) memory }
-        ensures step { answers self.new ≡ after (answers self.old) (binds id memory offset) }
+        ensures ok { OnOk result (answers self.new ≡ after (answers self.old) (binds id memory offset)) }
+        ensures err { OnErr result (answers self.new ≡ answers self.old) }
         ensures spare { self.new.spare ≡ self.old.spare }
     {
-        if let Some(object) = self.get(id).copied() {
-            let detail = object.detail.bound_to(Binding { memory, offset });
-            self.set_detail(id, object, detail);
-        }
+        let Some(object) = self.get(id).copied() else {
+            return Ok(());
+        };
+        let detail = object.detail.bound_to(Binding { memory, offset });
+        self.rest_on(id, object, detail, memory)
     }
 
     /// Maps bytes of a live memory, from an offset on.
@@ -222,55 +284,11 @@ impl Objects {
         ensures step { answers self.new ≡ after (answers self.old) (ends id) }
         ensures spare { self.new.spare ≡ self.old.spare }
     {
-        self.remove_owned(id, Kind::Queue);
-        self.remove_owned(id, Kind::CommandBuffer);
-        self.remove_owned(id, Kind::Image);
+        'owned: while let Some(child) = self.owned(id).last().copied() {
+            self.remove_row(child);
+        }
+        self.owned.close(id);
         self.remove_row(id);
-    }
-
-    /// Where the bytes of a resource stand: none exactly where it isn't usable.
-    pub fn window(&self, id: u64) -> Option<Window>
-        ensures window { option_map window_of result ≡ view.window (answers self.now) id }
-        ensures ends { IfSome result (λ w. w.offset + w.length ≤ max_live_bytes) }
-    {
-        match self.get(id)?.detail {
-            Detail::Buffer { size, bound, .. } => self.bound_window(bound, size),
-            Detail::Image {
-                format,
-                width,
-                height,
-                bound,
-                index,
-                ..
-            } => {
-                let length = image_size(format, width, height);
-                match index {
-                    Some(_) => Some(Window {
-                        place: Place::Image(id),
-                        offset: 0,
-                        length,
-                    }),
-                    None => self.bound_window(bound, length),
-                }
-            }
-            _ => None,
-        }
-    }
-
-    // The window of a resource of so many bytes under its binding.
-    fn bound_window(&self, bound: Option<Binding>, length: u64) -> Option<Window>
-        ensures { option_map window_of result ≡ view.bound_window (answers self.now) length (option_map binding_of bound) }
-    {
-        let binding = bound?;
-        if self.is_live(Kind::Memory, binding.memory) {
-            Some(Window {
-                place: Place::Memory(binding.memory),
-                offset: binding.offset,
-                length,
-            })
-        } else {
-            None
-        }
     }
 
     // Puts a row to the others, and counts it.
@@ -281,24 +299,31 @@ impl Objects {
         requires few { map.len self.old.rows < max_live_objects }
         requires small { bytes_in self.old.rows + view.detail_bytes (detail_of object.detail) ≤ max_live_bytes }
         requires spare { 1 ≤ self.old.spare }
+        requires owner { asked.is_owned (detail_of object.detail) ≡ true → 1 ≤ room_in self.old.owned object.parent }
         ensures fresh { map.get self.old.rows object.id ≡ None }
         ensures rows { self.new.rows ≡ map.insert self.old.rows object.id object }
         ensures used { holds self.new.used ≡ (λ other. object.id == other || holds self.old.used other) }
         ensures spare { self.new.spare + 1 ≡ self.old.spare }
+        ensures rooms { (x : ℕ) → room_in self.old.owned x ≤ room_in self.new.owned x + (if object.parent == x then 1 else 0) }
     {
+        let owner = object.owner();
+        let surface = object.detail.surface();
         self.bytes += object.detail.bytes();
+        self.count += 1;
         self.kinds.insert(object.kind, object.id);
         self.children.add(object.parent);
+        put_in(&mut self.owned, owner, object.id);
+        self.swapchains.add_to(surface);
         self.used.insert(object.id);
         self.rows.set(object.id, object);
         self.room -= 1;
     }
 
-    // Changes what was bound, mapped or set of a row.
+    // Changes what was mapped or set of a row.
     fn set_detail(&mut self, id: u64, object: Object, detail: Detail)
         requires row { map.get self.old.rows id ≡ Some object }
         requires parameters { detail_of detail ≡ detail_of object.detail }
-        requires rests { (b : asked.Binding) → bound_of detail ≡ Some b → RestsIn self.old (detail_of detail) b }
+        requires bound { bound_of detail ≡ bound_of object.detail }
         ensures rows { self.new.rows ≡ map.insert self.old.rows id (record object { detail = detail }) }
         ensures used { self.new.used ≡ self.old.used }
         ensures spare { self.new.spare ≡ self.old.spare }
@@ -306,32 +331,30 @@ impl Objects {
         self.rows.set(id, Object { detail, ..object });
     }
 
-    // Takes out what the owner owns of a kind.
-    fn remove_owned(&mut self, owner: u64, kind: Kind)
-        ensures rows { self.new.rows ≡ kept_rows (λ id o. not (is_owned_row owner kind o)) self.old.rows }
+    // Changes what a row is bound to. For want of memory it stays as it is.
+    fn rest_on(
+        &mut self,
+        id: u64,
+        object: Object,
+        detail: Detail,
+        memory: u64,
+    ) -> Result<(), WantMemory>
+        requires row { map.get self.old.rows id ≡ Some object }
+        requires parameters { detail_of detail ≡ detail_of object.detail }
+        requires memory { memory_of detail ≡ Some memory }
+        requires rests { (b : asked.Binding) → bound_of detail ≡ Some b → RestsIn self.old (detail_of detail) b }
+        ensures ok { OnOk result (self.new.rows ≡ map.insert self.old.rows id (record object { detail = detail })) }
+        ensures err { OnErr result (self.new.rows ≡ self.old.rows) }
         ensures used { self.new.used ≡ self.old.used }
         ensures spare { self.new.spare ≡ self.old.spare }
     {
-        let mut after = 0;
-        'ids: while let Some(id) = self.next(kind, after) {
-            if self.children(owner) == 0 {
-                return;
-            }
-            if self.is_owned_by(id, owner) {
-                self.remove_row(id);
-            }
-            after = id;
+        if self.resting.reserve(memory, 1).is_err() {
+            return Err(WantMemory);
         }
-    }
-
-    // Whether the object is live and the owner owns it.
-    fn is_owned_by(&self, id: u64, owner: u64) -> bool
-        ensures { result ≡ option_map_or (is_owned_by owner) (map.get self.now.rows id) false }
-    {
-        match self.get(id) {
-            Some(object) => object.detail.is_owned() && owner == object.parent,
-            None => false,
-        }
+        let before = object.detail.memory();
+        move_to(&mut self.resting, before, memory, id);
+        self.rows.set(id, Object { detail, ..object });
+        Ok(())
     }
 
     // Takes a row out, where there is one, and uncounts it.
@@ -341,38 +364,16 @@ impl Objects {
         ensures spare { self.new.spare ≡ self.old.spare }
     {
         if let Some(object) = self.rows.remove(id) {
+            let owner = object.owner();
+            let surface = object.detail.surface();
+            let memory = object.detail.memory();
             self.kinds.remove(object.kind, id);
             self.children.remove(object.parent);
+            take_from(&mut self.owned, owner, id);
+            self.swapchains.remove_from(surface);
+            take_from(&mut self.resting, memory, id);
             self.bytes -= object.detail.bytes();
+            self.count -= 1;
         }
     }
-}
-
-// Makes room in each of the tables.
-fn reserve_each(
-    rows: &mut Table<Object>,
-    used: &mut UsedIds,
-    kinds: &mut KindIds,
-    children: &mut ChildCounts,
-    more: usize,
-) -> Result<(), AllocError>
-    ensures rows { rows.new.map ≡ rows.old.map }
-    ensures used { holds used.new ≡ holds used.old }
-    ensures kinds { (kind : Kind) → ids_of kinds.new.tables kind ≡ ids_of kinds.old.tables kind }
-    ensures children { count_of children.new.counts.map ≡ count_of children.old.counts.map }
-
-    ensures rows_room { rows.old.spare ≤ rows.new.spare }
-    ensures used_room { used.old.spare ≤ used.new.spare }
-    ensures kinds_room { (kind : Kind) → room_of kinds.old.tables kind ≤ room_of kinds.new.tables kind }
-    ensures children_room { children.old.counts.spare ≤ children.new.counts.spare }
-
-    ensures rows_made { OnOk result (more ≤ rows.new.spare) }
-    ensures used_made { OnOk result (more ≤ used.new.spare) }
-    ensures kinds_made { OnOk result ((kind : Kind) → more ≤ room_of kinds.new.tables kind) }
-    ensures children_made { OnOk result (more ≤ children.new.counts.spare) }
-{
-    rows.reserve(more)?;
-    used.reserve(more)?;
-    kinds.reserve(more)?;
-    children.reserve(more)
 }

@@ -1,12 +1,16 @@
 //! What is asked of one object.
-ghost use Rattle.std.specs.Prelude.{◌≡◌, is_some, option_map};
+ghost use Rattle.std.specs.Prelude.{◌≡◌, ◌+◌, ◌≤◌, is_some, IfSome, option_map};
 ghost use Rattle.gfx_model.specs.Questions.{range_of};
 ghost use Rattle.gfx_model.specs.Checks as words;
 ghost use Rattle.gfx_model.specs.Views as view;
+ghost use Rattle.gfx_model.specs.Limits.{max_live_bytes};
+ghost use Rattle.gfx_objects.specs.Object.{window_of, binding_of};
 ghost use Rattle.gfx_objects.specs.Objects.{answers};
 
+use crate::kinds::number_of;
+use crate::object::{Binding, Detail, Window};
 use crate::objects::Objects;
-use gfx_types::MapRange;
+use gfx_types::{Kind, MapRange, Place, image_size};
 
 impl Objects {
     /// The bytes of a live memory, buffer or image, 0 for any other id.
@@ -126,6 +130,77 @@ impl Objects {
         match self.get(id) {
             Some(object) => object.detail.layout(),
             None => 0,
+        }
+    }
+
+    /// The device that the parents of an object lead to, 0 where there is none.
+    pub fn device_of(&self, id: u64) -> u64
+        ensures { result ≡ view.device_of (answers self.now) id }
+    {
+        self.climb(3, id)
+    }
+
+    // The first device up the parents in so many steps, 0 where there is none.
+    fn climb(&self, steps: u32, id: u64) -> u64
+        ensures { result ≡ view.climb steps (answers self.now) id }
+    {
+        if steps == 0 {
+            return 0;
+        }
+        let parent = match self.get(id) {
+            Some(object) => {
+                if number_of(object.kind) == number_of(Kind::Device) {
+                    return id;
+                }
+                object.parent
+            }
+            None => 0,
+        };
+        self.climb(steps - 1, parent)
+    }
+
+    /// Where the bytes of a resource stand: none exactly where it isn't usable.
+    pub fn window(&self, id: u64) -> Option<Window>
+        ensures window { option_map window_of result ≡ view.window (answers self.now) id }
+        ensures ends { IfSome result (λ w. w.offset + w.length ≤ max_live_bytes) }
+    {
+        match self.get(id)?.detail {
+            Detail::Buffer { size, bound, .. } => self.bound_window(bound, size),
+            Detail::Image {
+                format,
+                width,
+                height,
+                bound,
+                index,
+                ..
+            } => {
+                let length = image_size(format, width, height);
+                match index {
+                    Some(_) => Some(Window {
+                        place: Place::Image(id),
+                        offset: 0,
+                        length,
+                    }),
+                    None => self.bound_window(bound, length),
+                }
+            }
+            _ => None,
+        }
+    }
+
+    // The window of a resource of so many bytes under its binding.
+    fn bound_window(&self, bound: Option<Binding>, length: u64) -> Option<Window>
+        ensures { option_map window_of result ≡ view.bound_window (answers self.now) length (option_map binding_of bound) }
+    {
+        let binding = bound?;
+        if self.is_live(Kind::Memory, binding.memory) {
+            Some(Window {
+                place: Place::Memory(binding.memory),
+                offset: binding.offset,
+                length,
+            })
+        } else {
+            None
         }
     }
 }

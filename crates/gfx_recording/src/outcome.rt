@@ -24,7 +24,9 @@ pub(crate) fn write_outcome<K: Sink>(
     ensures sink_fault { result ≡ Err RecordingFault.SinkFault → Rose (K.faults sink.old) (K.faults sink.new) }
     ensures later { K.faults sink.old ≤ K.faults sink.new }
 {
-    write_left(alloc, asked, &outcome, sink)
+    let written = write_left(alloc, asked, &outcome, sink);
+    drop(outcome);
+    written
 }
 
 /// Writes what a run left: the frames that are asked for where each call was accepted, and else the whole log.

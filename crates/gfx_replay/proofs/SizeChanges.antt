@@ -1,5 +1,5 @@
 -- The sizes of places after the events that make or end them.
-use Rattle.std.proofs.Common.{◌≡◌, ℕ, Bool, true, false, cond, refl, sym, ap, ◌∙◌, [], fold, Option, Some, None, is_some, ◌==◌, ◌&&◌, ◌||◌}
+use Rattle.std.proofs.Common.{◌≡◌, ℕ, Bool, true, false, cond, refl, sym, ap, ◌∙◌, [], fold, Option, Some, None, is_some, arith, ◌==◌, ◌&&◌, ◌||◌}
 use Rattle.std.specs.List.{AllByRecursion}
 use Rattle.std.proofs.lemmas.Bool.{eqb-true}
 use Rattle.gfx_types.specs.declared.names.Kind.TheVariants as kind
@@ -139,3 +139,30 @@ chain_ended v h device swapchain none = by
     by : let w = fold after v (steps_of v (DestroySwapchainKHR device swapchain)) in IsKept (place_size v) (place_size w) (is_live w kind.Image)
     by (place.Memory m) = ended_memory v swapchain m (no_memory (v.live swapchain) is_swapchain)
     by (place.Image x) = image x (v.live x)
+
+-- an image that had a place and is gone after the end of a swapchain is one that the swapchain owned
+pub ended_owned : (v : View) → (device swapchain : ℕ) → first_broken v (checks_of (DestroySwapchainKHR device swapchain)) ≡ None →
+    (x : ℕ) → is_live (fold after v (steps_of v (DestroySwapchainKHR device swapchain))) kind.Image x ≡ false → is_some (image_bytes (v.live x)) ≡ true
+    → passes (λ o. is_owned o.detail && swapchain == o.parent) (v.live x) ≡ true
+unfolding after effect_of row_of broken
+ended_owned v device swapchain none x dead had = by (v.live x) refl dead had
+  where
+    is_swapchain : is_live v kind.Swapchain swapchain ≡ true
+    is_swapchain = unless_none _ _ (row_passes v (DestroySwapchainKHR device swapchain) none).1.0
+
+    by_detail : (p : ℕ) (d : Detail) → v.live x ≡ Some (record { parent = p; detail = d }) → (s t : Bool) → (swapchain == x) ≡ s → (is_owned d && swapchain == p) ≡ t
+        → passes (λ o. kind_number (kind_of o.detail) == 7) (cond (s || t) None (Some (record { parent = p; detail = d }))) ≡ false
+        → is_some (image_bytes (Some (record { parent = p; detail = d }))) ≡ true → t ≡ true
+    by_detail p d live s true same owned dead had = refl
+    by_detail p (an_image format width height usage (Some index)) live true false same owned dead had =
+        let kinds = ap (λ y. passes (λ o. kind_number (kind_of o.detail) == 12) (v.live y)) (eqb-true swapchain x same) ∙ ap (passes (λ o. kind_number (kind_of o.detail) == 12)) live in
+        absurd (grind (arith, kinds, is_swapchain))
+    by_detail p (an_image format width height usage (Some index)) live false false same owned dead had = absurd cc
+    by_detail p (an_image format width height usage None) live s false same owned dead had = absurd cc
+    by_detail p (a_memory size) live s false same owned dead had = absurd cc
+    by_detail p _ live s false same owned dead had = absurd cc
+
+    by : (l : Option Object) → v.live x ≡ l → passes (λ o. kind_number (kind_of o.detail) == 7) (after_end swapchain x l) ≡ false → is_some (image_bytes l) ≡ true
+        → passes (λ o. is_owned o.detail && swapchain == o.parent) l ≡ true
+    by None live dead had = absurd cc
+    by (Some o) live dead had = by_detail o.parent o.detail live (swapchain == x) (is_owned o.detail && swapchain == o.parent) refl refl dead had

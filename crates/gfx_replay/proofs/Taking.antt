@@ -1,5 +1,5 @@
 -- An effect without a fault is taken: its operations lie in the places, and all stands for the history with it.
-use Rattle.std.proofs.Common.{◌≡◌, ℕ, cond, refl, sym, ap, ◌∙◌, subst, List, [], ◌∷◌, map, flat_map, length, Option, Some, None, is_none, option_map, ◌==◌}
+use Rattle.std.proofs.Common.{◌≡◌, ℕ, Bool, true, false, ◌&&◌, is_some, cond, refl, sym, ap, ◌∙◌, subst, List, [], ◌∷◌, map, flat_map, length, Option, Some, None, is_none, option_map, ◌==◌}
 use Rattle.std.proofs.Math.Logic.{∥∥₁_elim}
 use Rattle.std.proofs.Props.{props}
 use Rattle.std.specs.Option.{option_or, IsSomeAnd-prop}
@@ -17,7 +17,7 @@ use Rattle.gfx_device.specs.Rows.{AreWithin}
 use Rattle.gfx_model.specs.Events.{Event}
 use Rattle.gfx_model.specs.Events.Event.{AllocateMemory, DestroySwapchainKHR, GetSwapchainImagesKHR, QueuePresentKHR}
 use Rattle.gfx_model.specs.Steps.{kind_of, kind_number}
-use Rattle.gfx_model.specs.Questions.{passes}
+use Rattle.gfx_model.specs.Questions.{passes, is_owned}
 use Rattle.gfx_model.specs.Views.{View, window, is_live}
 use Rattle.gfx_model.specs.Checks.{first_broken}
 use Rattle.gfx_model.specs.Table.{checks_of}
@@ -33,12 +33,12 @@ use Rattle.gfx_replay.specs.Held.{Bytes, Holds, HoldsMore}
 use Rattle.gfx_replay.specs.Ranges.{Sizes, sizes_of, IsWithin, AreAllWithin}
 use Rattle.gfx_replay.specs.Sizes.{place_size}
 use Rattle.gfx_replay.specs.Stands.{ArePlacesOf, Stands, HasStood}
-use Rattle.gfx_replay.specs.Updates.{AreUpdated, IsVacantFor, zeros_in, zeros_of}
+use Rattle.gfx_replay.specs.Updates.{AreUpdated, AreEndedBy, HoldEnded, IsVacantFor, zeros_in, zeros_of}
 use Rattle.gfx_replay.specs.Shown.{frame_after, picture_of, IsShownOf, IsThere}
 use Rattle.gfx_replay.specs.Fed.{AreShown, IsTaken}
 use Rattle.gfx_replay.specs.declared.shown.ShownFrame.{ShownFrame}
 use Rattle.gfx_replay.proofs.SizeSteps.{not_live, memory_size, image_bytes}
-use Rattle.gfx_replay.proofs.SizeChanges.{allocated}
+use Rattle.gfx_replay.proofs.SizeChanges.{allocated, ended_owned}
 use Rattle.gfx_replay.proofs.EventsWithin.{ops_within}
 use Rattle.gfx_replay.proofs.Showing.{present_shows}
 use Rattle.gfx_replay.proofs.Holding.{holds_same}
@@ -84,13 +84,23 @@ vacant_now v b c (AllocateMemory device memory size) stood pass same =
     let new = (allocated v h device memory size pass).0 in
     none_of_size (c (place.Memory memory))
     (same (place.Memory memory) ∙ ap (λ sizes. sizes (place.Memory memory)) (standing_sizes v b s.history s.stands) ∙ ap memory_size (not_live v h.objects memory new)))
-vacant_now v b c (DestroySwapchainKHR device swapchain) stood pass same =
+vacant_now v b c _ stood pass same = tt
+
+some_size : (o : Option (List ℕ)) (l : Option ℕ) → option_map length o ≡ l → is_some o ≡ true → is_some l ≡ true
+some_size None l is some = absurd cc
+some_size (Some xs) l is some = ap is_some (sym is)
+
+-- what an event ends is among the images that it ended by the answers before it
+pub ended_now : (k v w u : View) (b c : Bytes) (e : Event) (ids : List ℕ) → HasStood v b → first_broken v (checks_of e) ≡ None → IsSame (sizes_of b) (sizes_of c)
+    → SameObjects k v → w ≡ after_event v e → SameObjects u w → AreEndedBy k e ids → HoldEnded u e c ids
+ended_now k v w u b c (DestroySwapchainKHR device swapchain) ids stood pass same before is objects ended = λ x dead some.
     ∥∥₁_elim stood (hlevel props)
     (λ s.
-    let h = standing_lawful v b s.history s.stands in
-    none_of_size (c (place.Image 0))
-    (same (place.Image 0) ∙ ap (λ sizes. sizes (place.Image 0)) (standing_sizes v b s.history s.stands) ∙ ap image_bytes (h.objects).zero))
-vacant_now v b c _ stood pass same = tt
+    let size = same (place.Image x) ∙ ap (λ sizes. sizes (place.Image x)) (standing_sizes v b s.history s.stands) in
+    let had = some_size (c (place.Image x)) (image_bytes (v.live x)) size some in
+    let gone = sym (ap (λ l. passes (λ o. kind_number (kind_of o.detail) == 7) (l x)) (objects.live ∙ ap (λ v. v.live) is)) ∙ dead in
+    ended x ∙ ap (λ l. passes (λ o. is_owned o.detail && swapchain == o.parent) (l x)) before.live ∙ ended_owned v device swapchain pass x gone had)
+ended_now k v w u b c _ ids stood pass same before is objects ended = tt
 
 -- ---- the places after it
 

@@ -1,5 +1,5 @@
 -- What is kept for places, before and after a change.
-use Rattle.std.specs.Prelude.{◌≡◌, ◌<◌, ℕ, Bool, true, false, if◌then◌else◌, List, Option, None, IfSome}
+use Rattle.std.specs.Prelude.{◌≡◌, ℕ, Bool, true, false, if◌then◌else◌, List, Option, None}
 use Rattle.std.specs.Option.{option_or}
 use Rattle.gfx_types.specs.declared.op.Place.{Place}
 use Rattle.gfx_types.specs.declared.op.Place.TheVariants as place
@@ -31,8 +31,3 @@ is_no_other_image test (place.Image x) = test x
 -- images that do not pass the test have nothing now, and every other place what it had
 abbrev pub IsKept : {X : Type 0} → (Place → Option X) → (Place → Option X) → (ℕ → Bool) → Type 0
 IsKept old new test = (at : Place) → new at ≡ (if is_no_other_image test at then old at else None)
-
--- this is the least id of an image above the given one that has something, None where there is no such id
-pub record IsNextImage {X : Type 0} (here : Place → Option X) (after : ℕ) (next : Option ℕ) : Type 0 where
-  pub above : IfSome next (λ id. after < id)
-  pub between : (x : ℕ) → after < x → IfSome next (λ id. x < id) → here (place.Image x) ≡ None

@@ -1,6 +1,6 @@
 //! The handles of places.
 ghost use Rattle.std.specs.Prelude.{◌≡◌, ◌≤◌, Some, None, OnOk};
-ghost use Rattle.gfx_replay.specs.Maps.{IsSame, IsSet, IsNextImage};
+ghost use Rattle.gfx_replay.specs.Maps.{IsSame, IsSet};
 
 use gfx_device::Handle;
 use gfx_table::Table;
@@ -35,13 +35,6 @@ impl IdMap {
             Place::Memory(id) => self.memories.get(id).copied(),
             Place::Image(id) => self.images.get(id).copied(),
         }
-    }
-
-    /// The least id of an image above the given one that has a handle.
-    pub fn next_image(&self, after: u64) -> Option<u64>
-        ensures { IsNextImage (handle_of self.now) after result }
-    {
-        self.images.next_above(after)
     }
 
     /// Makes room for the handle of a place.

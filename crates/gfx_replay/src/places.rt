@@ -2,7 +2,7 @@
 ghost use Rattle.std.specs.Prelude.{◌≡◌, List, [], ◌∷◌, ℕ, false, Some, None, IsSome, IfOk, OnOk, OnErr, flat_map, length, replicate};
 ghost use Rattle.std.specs.Option.{option_map};
 ghost use Rattle.gfx_device.specs.Places.{places};
-ghost use Rattle.gfx_replay.specs.Maps.{IsSame, IsSet, IsNextImage};
+ghost use Rattle.gfx_replay.specs.Maps.{IsSame, IsSet};
 ghost use Rattle.gfx_replay.specs.Handles.{handle_of, IsSound};
 
 use crate::id_map::IdMap;
@@ -48,13 +48,6 @@ impl Places {
         let handle = self.device.add_place(length)?;
         self.ids.set(place, handle);
         Ok(())
-    }
-
-    /// The least id of an image above the given one that has a place.
-    pub fn next_image(&self, after: u64) -> Option<u64>
-        ensures { IsNextImage (bytes_in self.now) after result }
-    {
-        self.ids.next_image(after)
     }
 
     /// Drops a place, where there is one.

@@ -15,7 +15,7 @@ use crate::fault::FeedFault;
 use crate::places::Places;
 use crate::present::shown_frame;
 use crate::shown::ShownFrame;
-use crate::updates::update;
+use crate::updates::{ending_images, update};
 use gfx_device::StateBytes;
 use gfx_pages::{Bytes, Span};
 use gfx_tracker::Tracker;
@@ -132,10 +132,11 @@ fn take(
     ensures { IfOk result (λ shown. (h : List Event) → Stands (answers tracker.old) (bytes_in places.old) h → IsTaken (answers tracker.new) (bytes_in places.new) h (event_of effect.now) shown) }
 {
     let shown = shown_frame(alloc, tracker, effect)?;
+    let ending = ending_images(alloc, tracker.objects(), effect)?;
     let mut ops = OpList::of(Vec::new(alloc));
     tracker.take(effect, &mut ops)?;
     places.run_all(&ops, given_bytes(effect))?;
-    update(places, tracker.objects(), effect)?;
+    update(places, tracker.objects(), effect, &ending)?;
     Ok(shown)
 }
 

@@ -73,7 +73,7 @@ fn compare_commands(
                     },
                     kind
                 );
-                assert_eq!(rt; command.params.items(), fields.as_slice());
+                assert_eq!(rt; command.params, fields.as_slice());
             }
             None => return Err("a command is missing".into()),
         }

@@ -32,6 +32,10 @@ behind_append b l xs ys =
 abbrev pub here : View → List ℕ → List ℕ → ℕ → ℕ → ℕ
 here v before cbs i = layouts_by v.buffer v.layout (before ++ take i cbs)
 
+-- the one at the place meets its layouts there
+abbrev pub meets_here : View → List ℕ → List ℕ → ℕ → Bool
+meets_here v before cbs i = meets (here v before cbs i) (asked_in v.buffer (get_or cbs i 0))
+
 here_more : (v : View) (before cbs : List ℕ) (i : ℕ) → i < length cbs
     → layouts_after (here v before cbs i) (asked_in v.buffer (get_or cbs i 0)) ≡ here v before cbs (i + 1)
 here_more v before cbs i h =

@@ -68,6 +68,11 @@ four_more f a b c d = ap (λ xs. xs ++ d) (three_more f a b c) ∙ append_assoc 
 pub five_more : (f a b c d e : List Check) → ((((f ++ a) ++ b) ++ c) ++ d) ++ e ≡ f ++ ((((a ++ b) ++ c) ++ d) ++ e)
 five_more f a b c d e = ap (λ xs. xs ++ e) (four_more f a b c d) ∙ append_assoc f (((a ++ b) ++ c) ++ d) e
 
+-- a condition alone
+pub must_is : (v : View) (n : Fault) (holds : Bool) → broken v (must n holds) ≡ unless holds n
+unfolding broken
+must_is v n holds = refl
+
 -- a condition, and turns
 pub ordered : (v : View) (n : Fault) (holds : Bool) (turns : List Turn) (a b : Option Fault) → a ≡ unless holds n → b ≡ turns_fault v v.signalled v.layout turns
     → first a b ≡ first_broken v (must n holds ∷ in_turn turns ∷ [])

@@ -8,3 +8,4 @@ pub mod Executed
 pub mod Once
 pub mod Standing
 pub mod Few
+pub mod Differing

@@ -1,10 +1,10 @@
 //! The answers that checks read, given by any type.
 
-ghost use Rattle.std.specs.Prelude.{◌≡◌, ◌<◌, length, is_some, option_map, slice_get, slice_index};
+ghost use Rattle.std.specs.Prelude.{◌≡◌, is_some, option_map, slice_get};
 ghost use Rattle.gfx_model.specs.Questions.{range_of};
 ghost use Rattle.gfx_model.specs.Views as views;
 ghost use Rattle.gfx_model.specs.Checks as words;
-ghost use Rattle.gfx_model.specs.Layouts.{asked_in, executed_before, cbs_at, layouts_by};
+ghost use Rattle.gfx_rules.specs.Turns.{AreFew, IsFirstDiffering};
 
 use gfx_types::{Kind, MapRange, Submits};
 
@@ -22,6 +22,10 @@ pub trait Answers {
     /// The parent of a live object, 0 for any other id.
     fn parent_of(&self, id: u64) -> u64
         ensures { result ≡ views.parent_of (view self.now) id };
+
+    /// The device that the parents of an object lead to, 0 where there is none.
+    fn device_of(&self, id: u64) -> u64
+        ensures { result ≡ views.device_of (view self.now) id };
 
     /// Whether an object ever had this id.
     fn was_used(&self, id: u64) -> bool
@@ -139,11 +143,9 @@ pub trait Answers {
     fn section(&self) -> Option<u64>
         ensures { result ≡ (view self.now).section };
 
-    /// Whether the command buffer at a place of a submit meets its layouts, after all command buffers that stand
-    /// before it in the call.
-    fn meets_layouts(&self, submits: &Submits, submit: u32, at: u32) -> bool
-        requires submit { submit < length submits.now }
-        requires at { at < length (cbs_at submits.now submit) }
-        ensures { let v = view self.now in let cb = slice_index (cbs_at submits.now submit) at in
-            result ≡ words.meets (layouts_by v.buffer v.layout (executed_before submits.now submit at)) (asked_in v.buffer cb) };
+    /// The first place of a call, as a submit and a place among its command buffers, at which a command buffer does not
+    /// meet its layouts after all that the call executes before it.
+    fn differs_at(&self, submits: &Submits) -> Option<(u32, u32)>
+        requires { AreFew submits.now }
+        ensures { IsFirstDiffering (view self.now) submits.now result };
 }

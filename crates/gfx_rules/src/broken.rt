@@ -10,9 +10,8 @@ ghost use Rattle.gfx_rules.specs.Checks.{check_of};
 use crate::answers::Answers;
 use crate::checks::{Check, unless};
 use crate::derived::{
-    all_acquired, all_signalled, device_of, has_bit, has_room_for, has_room_to_keep, is_area_in,
-    is_fill_in, is_presentable, is_texel_multiple, pool_flags, rows_end, same_truth,
-    some_signalled, texel,
+    all_acquired, all_signalled, has_bit, has_room_for, has_room_to_keep, is_area_in, is_fill_in,
+    is_presentable, is_texel_multiple, pool_flags, rows_end, same_truth, some_signalled, texel,
 };
 use crate::ids::{images_fault, new_fault, queue_fault, room_fault};
 use gfx_types::Fault;
@@ -49,7 +48,7 @@ fn lies_in<A: Answers>(answers: &A, id: u64, memory: u64, offset: u64) -> bool
 }
 
 /// Whether a command buffer may be begun: it is initial, or its pool lets it be reset.
-fn may_begin<A: Answers>(answers: &A, cb: u64) -> bool
+pub fn may_begin<A: Answers>(answers: &A, cb: u64) -> bool
     ensures { let v = A.view answers.now in
         result ≡ (words.is_initial (v.buffer cb).state || asked.has_bit (views.pool_flags v cb) 2) }
 {
@@ -93,7 +92,7 @@ pub fn broken<A: Answers>(answers: &A, check: Check<'_>) -> Option<Fault>
         EndsFrame(frame) if is_begun(answers, frame), BadValue;
         Live(kind, id) if answers.is_live(kind, id), NotLive;
         Of(id, parent) if answers.parent_of(id) == parent, WrongParent;
-        Near(id, other) if device_of(answers, id) == device_of(answers, other), WrongParent;
+        Near(id, other) if answers.device_of(id) == answers.device_of(other), WrongParent;
         RoomFor(more) if has_room_for(answers, more), LimitReached;
         Childless(id) if answers.children(id) == 0, HasChildren;
         ChildlessButQueue(id) if has_queue_alone(answers, id), HasChildren;

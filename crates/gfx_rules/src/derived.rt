@@ -11,26 +11,7 @@ ghost use Rattle.gfx_model.specs.Limits.{max_live_bytes, max_kept_commands, max_
 
 use crate::answers::Answers;
 use gfx_types::limits::{MAX_KEPT_BYTES, MAX_KEPT_COMMANDS, MAX_LIVE_BYTES};
-use gfx_types::{Format, Kind, MapRange};
-
-fn climb<A: Answers>(answers: &A, times: u32, id: u64) -> u64
-    ensures { result ≡ views.climb times (A.view answers.now) id }
-{
-    if times == 0 {
-        0
-    } else if answers.is_live(Kind::Device, id) {
-        id
-    } else {
-        climb(answers, times - 1, answers.parent_of(id))
-    }
-}
-
-/// The device that the parents of an object lead to, 0 where there is none.
-pub fn device_of<A: Answers>(answers: &A, id: u64) -> u64
-    ensures { result ≡ views.device_of (A.view answers.now) id }
-{
-    climb(answers, 3, id)
-}
+use gfx_types::{Format, MapRange};
 
 /// The bytes of a texel of this format, 0 where it is none of the five.
 pub fn texel_size(format: u32) -> u64

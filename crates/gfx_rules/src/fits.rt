@@ -6,8 +6,7 @@ ghost use Rattle.gfx_model.specs.Spelling.{spelling};
 ghost use Rattle.gfx_model.specs.Checks as words;
 
 use crate::answers::Answers;
-use crate::broken::first_broken;
-use crate::checks::Check;
+use crate::resources::keep_fault;
 use gfx_types::{Barrier, BufferRegion, Fault, ImageRegion, MixedRegion};
 
 /// The bytes of fields that end with a list, behind `front` bytes, with `each` bytes for an item.
@@ -25,7 +24,7 @@ pub fn barriers_fit<A: Answers>(answers: &A, cb: u64, barriers: &[Barrier]) -> O
     ensures { result ≡ words.first_broken (A.view answers.now) (words.Check.fits (length (spelling 1 (CmdPipelineBarrier cb barriers.now))) ∷ []) }
 {
     let bytes = listed(8, barriers.len(), 16);
-    first_broken(answers, &[Check::Fits(bytes)])
+    keep_fault(answers, bytes)
 }
 
 /// 28 unless there is room to keep a CmdFillBuffer.
@@ -40,7 +39,7 @@ pub fn fill_fits<A: Answers>(
 ) -> Option<Fault>
     ensures { result ≡ words.first_broken (A.view answers.now) (words.Check.fits (length (spelling 1 (CmdFillBuffer cb buffer offset size word))) ∷ []) }
 {
-    first_broken(answers, &[Check::Fits(36)])
+    keep_fault(answers, 36)
 }
 
 /// 28 unless there is room to keep a CmdUpdateBuffer.
@@ -55,7 +54,7 @@ pub fn update_fits<A: Answers>(
     ensures { result ≡ words.first_broken (A.view answers.now) (words.Check.fits (length (spelling 1 (CmdUpdateBuffer cb buffer offset bytes.now))) ∷ []) }
 {
     let size = 32 + bytes.len() as u128;
-    first_broken(answers, &[Check::Fits(size)])
+    keep_fault(answers, size)
 }
 
 /// 28 unless there is room to keep a CmdCopyBuffer.
@@ -70,7 +69,7 @@ pub fn copies_fit<A: Answers>(
     ensures { result ≡ words.first_broken (A.view answers.now) (words.Check.fits (length (spelling 1 (CmdCopyBuffer cb source target regions.now))) ∷ []) }
 {
     let bytes = listed(24, regions.len(), 24);
-    first_broken(answers, &[Check::Fits(bytes)])
+    keep_fault(answers, bytes)
 }
 
 /// 28 unless there is room to keep a CmdCopyImage.
@@ -87,7 +86,7 @@ pub fn image_copies_fit<A: Answers>(
     ensures { result ≡ words.first_broken (A.view answers.now) (words.Check.fits (length (spelling 1 (CmdCopyImage cb source source_layout target target_layout regions.now))) ∷ []) }
 {
     let bytes = listed(32, regions.len(), 24);
-    first_broken(answers, &[Check::Fits(bytes)])
+    keep_fault(answers, bytes)
 }
 
 /// 28 unless there is room to keep a CmdCopyBufferToImage.
@@ -103,7 +102,7 @@ pub fn uploads_fit<A: Answers>(
     ensures { result ≡ words.first_broken (A.view answers.now) (words.Check.fits (length (spelling 1 (CmdCopyBufferToImage cb source target layout regions.now))) ∷ []) }
 {
     let bytes = listed(28, regions.len(), 32);
-    first_broken(answers, &[Check::Fits(bytes)])
+    keep_fault(answers, bytes)
 }
 
 /// 28 unless there is room to keep a CmdCopyImageToBuffer.
@@ -119,7 +118,7 @@ pub fn downloads_fit<A: Answers>(
     ensures { result ≡ words.first_broken (A.view answers.now) (words.Check.fits (length (spelling 1 (CmdCopyImageToBuffer cb source layout target regions.now))) ∷ []) }
 {
     let bytes = listed(28, regions.len(), 32);
-    first_broken(answers, &[Check::Fits(bytes)])
+    keep_fault(answers, bytes)
 }
 
 /// 28 unless there is room to keep a CmdClearColorImage.
@@ -136,5 +135,5 @@ pub fn clear_fits<A: Answers>(
 ) -> Option<Fault>
     ensures { result ≡ words.first_broken (A.view answers.now) (words.Check.fits (length (spelling 1 (CmdClearColorImage cb image layout c0 c1 c2 c3))) ∷ []) }
 {
-    first_broken(answers, &[Check::Fits(36)])
+    keep_fault(answers, 36)
 }

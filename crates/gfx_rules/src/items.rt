@@ -4,33 +4,37 @@ ghost use Rattle.std.specs.Prelude.{◌≡◌, ◌&&◌, map, flat_map};
 ghost use Rattle.gfx_types.specs.declared.names.Kind.TheVariants as kind;
 ghost use Rattle.gfx_model.specs.Table as table;
 ghost use Rattle.gfx_model.specs.Checks as words;
+ghost use Rattle.gfx_model.specs.Views as views;
 
 use crate::answers::Answers;
 use crate::broken::{broken, first_broken};
-use crate::checks::Check;
+use crate::checks::{Check, unless};
+use crate::lists::near_fault;
 use crate::values::{both, is_barrier, is_mixed, sum};
 use gfx_types::{Barrier, BufferRegion, Fault, ImageRegion, Kind, MixedRegion};
 
-/// The fault of one image of a barrier.
-fn resource_fault<A: Answers>(answers: &A, cb: u64, image: u64) -> Option<Fault>
+/// The fault of one image of a barrier, by the device of the command buffer.
+#[tactic(auto, unfolding(gfx_model::specs::Checks::broken))]
+fn resource_fault<A: Answers>(answers: &A, cb: u64, device: u64, image: u64) -> Option<Fault>
+    requires { device ≡ views.device_of (A.view answers.now) cb }
     ensures { result ≡ words.first_broken (A.view answers.now) (table.res kind.Image cb image) }
 {
-    first_broken(
-        answers,
-        &[
-            Check::Live(Kind::Image, image),
-            Check::Near(image, cb),
-            Check::Usable(image),
-        ],
-    )
+    if !answers.is_live(Kind::Image, image) {
+        return Some(Fault::NotLive);
+    }
+    if let Some(fault) = near_fault(answers, cb, device, image) {
+        return Some(fault);
+    }
+    unless(answers.is_usable(image), Fault::NotBound)
 }
 
 /// The fault of the first item that is no usable image near the command buffer.
 pub fn resource_each<A: Answers>(answers: &A, cb: u64, items: &[Barrier]) -> Option<Fault>
     ensures { result ≡ words.first_broken (A.view answers.now) (flat_map (λ b. table.res kind.Image cb b.image) items.now) }
 {
+    let device = answers.device_of(cb);
     'items: for item in items {
-        if let Some(fault) = resource_fault(answers, cb, item.image) {
+        if let Some(fault) = resource_fault(answers, cb, device, item.image) {
             return Some(fault);
         }
     }
@@ -38,12 +42,13 @@ pub fn resource_each<A: Answers>(answers: &A, cb: u64, items: &[Barrier]) -> Opt
 }
 
 /// The fault of the first item whose layouts are not known or lead to UNDEFINED.
+#[tactic(auto, unfolding(gfx_model::specs::Checks::broken))]
 pub fn barrier_values<A: Answers>(answers: &A, items: &[Barrier]) -> Option<Fault>
     ensures { result ≡ words.first_broken (A.view answers.now) (map table.barrier_value items.now) }
 {
     'items: for item in items {
-        if let Some(fault) = broken(answers, Check::Must(Fault::BadValue, is_barrier(*item))) {
-            return Some(fault);
+        if !is_barrier(*item) {
+            return Some(Fault::BadValue);
         }
     }
     None

@@ -15,6 +15,7 @@ mod items;
 mod lists;
 mod places;
 mod presents;
+mod resources;
 mod rows_buffers;
 mod rows_commands;
 mod rows_copies;

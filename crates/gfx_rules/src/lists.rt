@@ -5,11 +5,12 @@ ghost use Rattle.gfx_types.specs.declared.names.Kind.TheVariants as kind;
 ghost use Rattle.gfx_types.specs.declared.names.Fault.TheVariants.{NotLive};
 ghost use Rattle.gfx_model.specs.Table as table;
 ghost use Rattle.gfx_model.specs.Checks as words;
+ghost use Rattle.gfx_model.specs.Views as views;
 
 use crate::answers::Answers;
 use crate::apart::stand_apart;
 use crate::broken::{broken, first_broken};
-use crate::checks::{Check, first};
+use crate::checks::{Check, first, unless};
 use crate::ids::is_among_between;
 use gfx_types::{Fault, Kind};
 
@@ -37,12 +38,22 @@ pub fn of_each<A: Answers>(answers: &A, parent: u64, ids: &[u64]) -> Option<Faul
     None
 }
 
+/// 13 if an id belongs to another device than this object, whose device is known.
+#[tactic(auto, unfolding(gfx_model::specs::Checks::broken))]
+pub fn near_fault<A: Answers>(answers: &A, other: u64, device: u64, id: u64) -> Option<Fault>
+    requires { device ≡ views.device_of (A.view answers.now) other }
+    ensures { result ≡ words.broken (A.view answers.now) (words.Check.near id other) }
+{
+    unless(answers.device_of(id) == device, Fault::WrongParent)
+}
+
 /// The fault of the first id that belongs to another device than this object.
 fn near_all<A: Answers>(answers: &A, other: u64, ids: &[u64]) -> Option<Fault>
     ensures { result ≡ words.first_broken (A.view answers.now) (map (λ y. words.Check.near y other) ids.now) }
 {
+    let device = answers.device_of(other);
     'ids: for id in ids {
-        if let Some(fault) = broken(answers, Check::Near(*id, other)) {
+        if let Some(fault) = near_fault(answers, other, device, *id) {
             return Some(fault);
         }
     }

@@ -8,7 +8,7 @@ ghost use Rattle.gfx_model.specs.Checks as words;
 
 use crate::answers::Answers;
 use crate::broken::first_broken;
-use crate::checks::Check;
+use crate::checks::{Check, unless};
 use gfx_types::{Call, Effect, Fault, Meta};
 
 /// Whether a call may stand in the state section.
@@ -69,14 +69,14 @@ fn may_stand_inside(call: &Call<'_>) -> bool
 }
 
 /// 10 for a call in the section that may not stand there.
-#[tactic(auto, using(crate::proofs::Standing::of_call))]
+#[tactic(auto, using(crate::proofs::Standing::of_call), unfolding(gfx_model::specs::Checks::broken))]
 fn call_place<A: Answers>(answers: &A, call: &Call<'_>) -> Option<Fault>
     ensures { result ≡ words.first_broken (A.view answers.now) (place_of (event_of_call call.now)) }
 {
     if may_stand_inside(call) {
         None
     } else {
-        first_broken(answers, &[Check::Outside])
+        unless(answers.section().is_none(), Fault::StateOrder)
     }
 }
 

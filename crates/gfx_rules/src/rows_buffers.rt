@@ -9,10 +9,11 @@ ghost use Rattle.gfx_model.specs.Checks as words;
 ghost use Rattle.gfx_model.specs.Limits.{max_list_length};
 
 use crate::answers::Answers;
-use crate::broken::first_broken;
-use crate::checks::{Check, first};
+use crate::broken::{first_broken, may_begin};
+use crate::checks::{Check, first, unless};
 use crate::ids::{new_faults, room_fault};
 use crate::lists::{live_once, of_each};
+use crate::resources::{command_fault, live_fault};
 use gfx_types::limits::MAX_LIST_LENGTH;
 use gfx_types::{Fault, Kind};
 
@@ -69,19 +70,20 @@ pub fn free_command_buffers<A: Answers>(
 }
 
 /// The fault of BeginCommandBuffer.
-#[tactic(auto, unfolding(gfx_model::specs::Table::row_of))]
+#[tactic(auto, unfolding(gfx_model::specs::Table::row_of, gfx_model::specs::Checks::broken))]
 pub fn begin_command_buffer<A: Answers>(answers: &A, cb: u64, flags: u32) -> Option<Fault>
     ensures { result ≡ words.first_broken (A.view answers.now) (row_of (BeginCommandBuffer cb flags)) }
 {
-    first_broken(
-        answers,
-        &[
-            Check::Live(Kind::CommandBuffer, cb),
-            Check::Must(Fault::BadValue, matches!(flags, 0 | 1 | 4 | 5)),
-            Check::NotRecording(cb),
-            Check::MayBegin(cb),
-        ],
-    )
+    if let Some(fault) = live_fault(answers, Kind::CommandBuffer, cb) {
+        return Some(fault);
+    }
+    if !matches!(flags, 0 | 1 | 4 | 5) {
+        return Some(Fault::BadValue);
+    }
+    if answers.is_recording(cb) {
+        return Some(Fault::CommandState);
+    }
+    unless(may_begin(answers, cb), Fault::PoolRule)
 }
 
 /// The fault of EndCommandBuffer.
@@ -89,10 +91,7 @@ pub fn begin_command_buffer<A: Answers>(answers: &A, cb: u64, flags: u32) -> Opt
 pub fn end_command_buffer<A: Answers>(answers: &A, cb: u64) -> Option<Fault>
     ensures { result ≡ words.first_broken (A.view answers.now) (row_of (EndCommandBuffer cb)) }
 {
-    first_broken(
-        answers,
-        &[Check::Live(Kind::CommandBuffer, cb), Check::Recording(cb)],
-    )
+    command_fault(answers, cb)
 }
 
 /// The fault of ResetCommandBuffer.

@@ -9,10 +9,10 @@ ghost use Rattle.gfx_model.specs.Checks as words;
 ghost use Rattle.gfx_model.specs.Limits.{max_update};
 
 use crate::answers::Answers;
-use crate::broken::first_broken;
-use crate::checks::{Check, first};
+use crate::checks::{first, unless};
 use crate::fits::{barriers_fit, clear_fits, fill_fits, update_fits};
 use crate::items::{barrier_values, resource_each};
+use crate::resources::{command_fault, end_fault, resource_fault, usage_fault};
 use crate::spans::span;
 use crate::values::{both, either, is_either, sum};
 use gfx_types::limits::{MAX_BARRIERS, MAX_UPDATE};
@@ -22,15 +22,8 @@ use gfx_types::{Barrier, Fault, Kind};
 pub fn cmd_pipeline_barrier<A: Answers>(answers: &A, cb: u64, barriers: &[Barrier]) -> Option<Fault>
     ensures { result ≡ words.first_broken (A.view answers.now) (row_of (CmdPipelineBarrier cb barriers.now)) }
 {
-    let front = first_broken(
-        answers,
-        &[
-            Check::Live(Kind::CommandBuffer, cb),
-            Check::Recording(cb),
-            Check::Must(Fault::BadValue, 0 <= barriers.len()),
-            Check::Must(Fault::LimitReached, barriers.len() <= MAX_BARRIERS),
-        ],
-    );
+    let many = unless(barriers.len() <= MAX_BARRIERS, Fault::LimitReached);
+    let front = first(command_fault(answers, cb), many);
     match front {
         Some(fault) => Some(fault),
         None => {
@@ -42,6 +35,7 @@ pub fn cmd_pipeline_barrier<A: Answers>(answers: &A, cb: u64, barriers: &[Barrie
 }
 
 /// The front of CmdFillBuffer, up to its range.
+#[tactic(auto, using(crate::proofs::Joined::must_is))]
 fn fill_front<A: Answers>(
     answers: &A,
     cb: u64,
@@ -56,18 +50,16 @@ fn fill_front<A: Answers>(
         offset % 4 == 0,
         either(size == u64::MAX, both(4 <= size, size % 4 == 0)),
     );
-    first_broken(
-        answers,
-        &[
-            Check::Live(Kind::CommandBuffer, cb),
-            Check::Recording(cb),
-            Check::Live(Kind::Buffer, buffer),
-            Check::Near(buffer, cb),
-            Check::Usable(buffer),
-            Check::MayUse(buffer, 2),
-            Check::Must(Fault::BadValue, fine),
-        ],
-    )
+    if let Some(fault) = command_fault(answers, cb) {
+        return Some(fault);
+    }
+    if let Some(fault) = resource_fault(answers, Kind::Buffer, cb, buffer) {
+        return Some(fault);
+    }
+    if let Some(fault) = usage_fault(answers, buffer, 2) {
+        return Some(fault);
+    }
+    unless(fine, Fault::BadValue)
 }
 
 /// The fault of CmdFillBuffer.
@@ -81,13 +73,17 @@ pub fn cmd_fill_buffer<A: Answers>(
 ) -> Option<Fault>
     ensures { result ≡ words.first_broken (A.view answers.now) (row_of (CmdFillBuffer cb buffer offset size word)) }
 {
-    let front = fill_front(answers, cb, buffer, offset, size);
-    let range = span(answers, buffer, offset, size);
-    let room = fill_fits(answers, cb, buffer, offset, size, word);
-    first(front, first(range, room))
+    if let Some(fault) = fill_front(answers, cb, buffer, offset, size) {
+        return Some(fault);
+    }
+    if let Some(fault) = span(answers, buffer, offset, size) {
+        return Some(fault);
+    }
+    fill_fits(answers, cb, buffer, offset, size, word)
 }
 
 /// The front of CmdUpdateBuffer, all but the room for it.
+#[tactic(auto, using(crate::proofs::Joined::must_is))]
 fn update_front<A: Answers>(
     answers: &A,
     cb: u64,
@@ -101,20 +97,19 @@ fn update_front<A: Answers>(
 {
     let whole = both(offset % 4 == 0, count % 4 == 0);
     let fine = both(both(whole, 4 <= count), count <= MAX_UPDATE);
-    let end = sum(offset, count);
-    first_broken(
-        answers,
-        &[
-            Check::Live(Kind::CommandBuffer, cb),
-            Check::Recording(cb),
-            Check::Live(Kind::Buffer, buffer),
-            Check::Near(buffer, cb),
-            Check::Usable(buffer),
-            Check::MayUse(buffer, 2),
-            Check::Must(Fault::BadValue, fine),
-            Check::EndsIn(buffer, end),
-        ],
-    )
+    if let Some(fault) = command_fault(answers, cb) {
+        return Some(fault);
+    }
+    if let Some(fault) = resource_fault(answers, Kind::Buffer, cb, buffer) {
+        return Some(fault);
+    }
+    if let Some(fault) = usage_fault(answers, buffer, 2) {
+        return Some(fault);
+    }
+    if !fine {
+        return Some(Fault::BadValue);
+    }
+    end_fault(answers, buffer, sum(offset, count))
 }
 
 /// The fault of CmdUpdateBuffer.
@@ -131,24 +126,34 @@ pub fn cmd_update_buffer<A: Answers>(
     first(front, update_fits(answers, cb, buffer, offset, bytes))
 }
 
+/// 24 unless the image has a UINT format.
+#[tactic(auto, unfolding(gfx_model::specs::Checks::broken))]
+fn uint_fault<A: Answers>(answers: &A, image: u64) -> Option<Fault>
+    ensures { result ≡ words.broken (A.view answers.now) (words.Check.uint_format image) }
+{
+    let is_uint = matches!(answers.format_at(image), 13 | 41 | 98);
+    unless(is_uint, Fault::FormatDiffers)
+}
+
 /// The front of CmdClearColorImage, all but the room for it.
+#[tactic(auto, using(crate::proofs::Joined::must_is))]
 fn clear_front<A: Answers>(answers: &A, cb: u64, image: u64, layout: u32) -> Option<Fault>
     ensures { result ≡ words.first_broken (A.view answers.now) (words.Check.live kind.CommandBuffer cb ∷ words.Check.recording cb ∷ table.res kind.Image cb image
         ++ table.dst image ∷ table.value (words.is_among layout (7 ∷ 1 ∷ [])) ∷ words.Check.uint_format image ∷ []) }
 {
-    first_broken(
-        answers,
-        &[
-            Check::Live(Kind::CommandBuffer, cb),
-            Check::Recording(cb),
-            Check::Live(Kind::Image, image),
-            Check::Near(image, cb),
-            Check::Usable(image),
-            Check::MayUse(image, 2),
-            Check::Must(Fault::BadValue, is_either(layout, 7, 1)),
-            Check::UintFormat(image),
-        ],
-    )
+    if let Some(fault) = command_fault(answers, cb) {
+        return Some(fault);
+    }
+    if let Some(fault) = resource_fault(answers, Kind::Image, cb, image) {
+        return Some(fault);
+    }
+    if let Some(fault) = usage_fault(answers, image, 2) {
+        return Some(fault);
+    }
+    if !is_either(layout, 7, 1) {
+        return Some(Fault::BadValue);
+    }
+    uint_fault(answers, image)
 }
 
 /// The fault of CmdClearColorImage.

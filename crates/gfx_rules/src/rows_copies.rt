@@ -1,55 +1,62 @@
 //! The rows of copies.
 
-ghost use Rattle.std.specs.Prelude.{◌≡◌, ◌&&◌, ◌++◌, ◌∷◌, [], nat_le, map, flat_map};
+ghost use Rattle.std.specs.Prelude.{◌≡◌, ◌&&◌, ◌++◌, ◌∷◌, [], nat_le, flat_map};
 ghost use Rattle.gfx_types.specs.declared.names.Kind.TheVariants as kind;
 ghost use Rattle.gfx_model.specs.Events.Event.{CmdCopyBuffer, CmdCopyImage, CmdCopyBufferToImage, CmdCopyImageToBuffer};
 ghost use Rattle.gfx_model.specs.Table as table;
 ghost use Rattle.gfx_model.specs.Table.{row_of};
 ghost use Rattle.gfx_model.specs.Checks as words;
-ghost use Rattle.gfx_rules.specs.Checks.{check_of};
 ghost use Rattle.gfx_model.specs.Limits.{max_regions};
 
 use crate::answers::Answers;
-use crate::broken::first_broken;
-use crate::checks::{Check, first};
+use crate::checks::{first, unless};
+use crate::derived::texel;
 use crate::fits::{copies_fit, downloads_fit, image_copies_fit, uploads_fit};
 use crate::items::{
     buffer_regions_in, buffer_sizes, image_extents, image_regions_in, mixed_regions_in,
     mixed_values,
 };
+use crate::resources::{command_fault, resource_fault, usage_fault};
 use crate::values::{both, is_either};
 use gfx_types::limits::MAX_REGIONS;
 use gfx_types::{BufferRegion, Fault, ImageRegion, Kind, MixedRegion};
 
-/// The front of a copy: that of all copies, and what is its own.
-fn copy_front<A: Answers>(
+/// The fault of the command buffer of a copy, and of its source and target.
+fn copied_fault<A: Answers>(
     answers: &A,
     cb: u64,
     of: Kind,
     source: u64,
     to: Kind,
     target: u64,
-    own: &[Check<'_>],
 ) -> Option<Fault>
     ensures { result ≡ words.first_broken (A.view answers.now) (words.Check.live kind.CommandBuffer cb ∷ words.Check.recording cb
-        ∷ table.copied cb of source to target ++ map check_of own.now) }
+        ∷ table.copied cb of source to target) }
 {
-    let all = first_broken(
-        answers,
-        &[
-            Check::Live(Kind::CommandBuffer, cb),
-            Check::Recording(cb),
-            Check::Live(of, source),
-            Check::Near(source, cb),
-            Check::Usable(source),
-            Check::Live(to, target),
-            Check::Near(target, cb),
-            Check::Usable(target),
-            Check::MayUse(source, 1),
-            Check::MayUse(target, 2),
-        ],
-    );
-    first(all, first_broken(answers, own))
+    if let Some(fault) = command_fault(answers, cb) {
+        return Some(fault);
+    }
+    if let Some(fault) = resource_fault(answers, of, cb, source) {
+        return Some(fault);
+    }
+    if let Some(fault) = resource_fault(answers, to, cb, target) {
+        return Some(fault);
+    }
+    first(
+        usage_fault(answers, source, 1),
+        usage_fault(answers, target, 2),
+    )
+}
+
+/// 15 for a copy of no regions, 28 for one of too many.
+#[tactic(auto, unfolding(gfx_model::specs::Checks::broken))]
+fn count_fault<A: Answers>(answers: &A, count: usize) -> Option<Fault>
+    ensures { result ≡ words.first_broken (A.view answers.now) (table.value (nat_le 1 count) ∷ table.limit (nat_le count max_regions) ∷ []) }
+{
+    first(
+        unless(1 <= count, Fault::BadValue),
+        unless(count <= MAX_REGIONS, Fault::LimitReached),
+    )
 }
 
 /// The fault of CmdCopyBuffer.
@@ -62,26 +69,24 @@ pub fn cmd_copy_buffer<A: Answers>(
 ) -> Option<Fault>
     ensures { result ≡ words.first_broken (A.view answers.now) (row_of (CmdCopyBuffer cb source target regions.now)) }
 {
-    let own = [
-        Check::Must(Fault::BadValue, 1 <= regions.len()),
-        Check::Must(Fault::LimitReached, regions.len() <= MAX_REGIONS),
-    ];
-    match copy_front(
-        answers,
-        cb,
-        Kind::Buffer,
-        source,
-        Kind::Buffer,
-        target,
-        &own,
-    ) {
-        Some(fault) => Some(fault),
-        None => {
-            let sizes = buffer_sizes(answers, regions);
-            let items = first(sizes, buffer_regions_in(answers, source, target, regions));
-            first(items, copies_fit(answers, cb, source, target, regions))
-        }
+    if let Some(fault) = copied_fault(answers, cb, Kind::Buffer, source, Kind::Buffer, target) {
+        return Some(fault);
     }
+    if let Some(fault) = count_fault(answers, regions.len()) {
+        return Some(fault);
+    }
+    let sizes = buffer_sizes(answers, regions);
+    let items = first(sizes, buffer_regions_in(answers, source, target, regions));
+    first(items, copies_fit(answers, cb, source, target, regions))
+}
+
+/// 24 unless texels of both images have one size.
+#[tactic(auto, unfolding(gfx_model::specs::Checks::broken))]
+fn texel_fault<A: Answers>(answers: &A, source: u64, target: u64) -> Option<Fault>
+    ensures { result ≡ words.broken (A.view answers.now) (words.Check.same_texel source target) }
+{
+    let is_same = texel(answers, source) == texel(answers, target);
+    unless(is_same, Fault::FormatDiffers)
 }
 
 /// The front of CmdCopyImage, up to its regions.
@@ -103,13 +108,16 @@ fn images_front<A: Answers>(
         is_either(source_layout, 6, 1),
         is_either(target_layout, 7, 1),
     );
-    let own = [
-        Check::Must(Fault::BadValue, fine),
-        Check::SameTexel(source, target),
-        Check::Must(Fault::BadValue, 1 <= count),
-        Check::Must(Fault::LimitReached, count <= MAX_REGIONS),
-    ];
-    copy_front(answers, cb, Kind::Image, source, Kind::Image, target, &own)
+    if let Some(fault) = copied_fault(answers, cb, Kind::Image, source, Kind::Image, target) {
+        return Some(fault);
+    }
+    if !fine {
+        return Some(Fault::BadValue);
+    }
+    if let Some(fault) = texel_fault(answers, source, target) {
+        return Some(fault);
+    }
+    count_fault(answers, count)
 }
 
 /// The fault of CmdCopyImage.
@@ -169,12 +177,13 @@ fn mixed_front<A: Answers>(
         ∷ table.copied cb of source to target ++ table.value (words.is_among layout (usual ∷ 1 ∷ []))
         ∷ table.value (nat_le 1 count) ∷ table.limit (nat_le count max_regions) ∷ []) }
 {
-    let own = [
-        Check::Must(Fault::BadValue, is_either(layout, usual, 1)),
-        Check::Must(Fault::BadValue, 1 <= count),
-        Check::Must(Fault::LimitReached, count <= MAX_REGIONS),
-    ];
-    copy_front(answers, cb, of, source, to, target, &own)
+    if let Some(fault) = copied_fault(answers, cb, of, source, to, target) {
+        return Some(fault);
+    }
+    if !is_either(layout, usual, 1) {
+        return Some(Fault::BadValue);
+    }
+    count_fault(answers, count)
 }
 
 /// The regions of a copy between a buffer and an image.

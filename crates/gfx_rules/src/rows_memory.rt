@@ -8,6 +8,8 @@ ghost use Rattle.gfx_model.specs.Checks as words;
 use crate::answers::Answers;
 use crate::broken::first_broken;
 use crate::checks::{Check, first};
+use crate::ids::{new_fault, room_fault};
+use crate::resources::{live_fault, owned_fault};
 use crate::spans::span;
 use crate::values::{both, is_image};
 use gfx_types::limits::{BIND_ALIGNMENT, MAX_EXTENT};
@@ -91,7 +93,7 @@ pub fn unmap_memory<A: Answers>(answers: &A, device: u64, memory: u64) -> Option
 }
 
 /// The fault of CreateBuffer.
-#[tactic(auto, unfolding(gfx_model::specs::Table::row_of))]
+#[tactic(auto, unfolding(gfx_model::specs::Table::row_of, gfx_model::specs::Checks::broken))]
 pub fn create_buffer<A: Answers>(
     answers: &A,
     device: u64,
@@ -101,15 +103,16 @@ pub fn create_buffer<A: Answers>(
 ) -> Option<Fault>
     ensures { result ≡ words.first_broken (A.view answers.now) (row_of (CreateBuffer device buffer size usage)) }
 {
-    first_broken(
-        answers,
-        &[
-            Check::Live(Kind::Device, device),
-            Check::New(buffer),
-            Check::Must(Fault::BadValue, both(1 <= size, 1 <= usage)),
-            Check::Room(1),
-        ],
-    )
+    if let Some(fault) = live_fault(answers, Kind::Device, device) {
+        return Some(fault);
+    }
+    if let Some(fault) = new_fault(answers, buffer) {
+        return Some(fault);
+    }
+    if !both(1 <= size, 1 <= usage) {
+        return Some(Fault::BadValue);
+    }
+    room_fault(answers, 1)
 }
 
 /// The fault of DestroyBuffer.
@@ -117,14 +120,7 @@ pub fn create_buffer<A: Answers>(
 pub fn destroy_buffer<A: Answers>(answers: &A, device: u64, buffer: u64) -> Option<Fault>
     ensures { result ≡ words.first_broken (A.view answers.now) (row_of (DestroyBuffer device buffer)) }
 {
-    first_broken(
-        answers,
-        &[
-            Check::Live(Kind::Device, device),
-            Check::Live(Kind::Buffer, buffer),
-            Check::Of(buffer, device),
-        ],
-    )
+    owned_fault(answers, Kind::Buffer, device, buffer)
 }
 
 /// The fault of BindBufferMemory.
@@ -154,7 +150,7 @@ pub fn bind_buffer_memory<A: Answers>(
 }
 
 /// The fault of CreateImage.
-#[tactic(auto, unfolding(gfx_model::specs::Table::row_of))]
+#[tactic(auto, unfolding(gfx_model::specs::Table::row_of, gfx_model::specs::Checks::broken))]
 pub fn create_image<A: Answers>(
     answers: &A,
     device: u64,
@@ -166,19 +162,19 @@ pub fn create_image<A: Answers>(
 ) -> Option<Fault>
     ensures { result ≡ words.first_broken (A.view answers.now) (row_of (CreateImage device image format width height usage)) }
 {
-    first_broken(
-        answers,
-        &[
-            Check::Live(Kind::Device, device),
-            Check::New(image),
-            Check::Must(Fault::BadValue, is_image(format, width, height, usage)),
-            Check::Must(
-                Fault::LimitReached,
-                both(width <= MAX_EXTENT, height <= MAX_EXTENT),
-            ),
-            Check::Room(1),
-        ],
-    )
+    if let Some(fault) = live_fault(answers, Kind::Device, device) {
+        return Some(fault);
+    }
+    if let Some(fault) = new_fault(answers, image) {
+        return Some(fault);
+    }
+    if !is_image(format, width, height, usage) {
+        return Some(Fault::BadValue);
+    }
+    if !both(width <= MAX_EXTENT, height <= MAX_EXTENT) {
+        return Some(Fault::LimitReached);
+    }
+    room_fault(answers, 1)
 }
 
 /// The fault of DestroyImage.
@@ -186,14 +182,7 @@ pub fn create_image<A: Answers>(
 pub fn destroy_image<A: Answers>(answers: &A, device: u64, image: u64) -> Option<Fault>
     ensures { result ≡ words.first_broken (A.view answers.now) (row_of (DestroyImage device image)) }
 {
-    first_broken(
-        answers,
-        &[
-            Check::Live(Kind::Device, device),
-            Check::Live(Kind::Image, image),
-            Check::Of(image, device),
-        ],
-    )
+    owned_fault(answers, Kind::Image, device, image)
 }
 
 /// The fault of BindImageMemory.

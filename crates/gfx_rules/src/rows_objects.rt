@@ -8,6 +8,8 @@ ghost use Rattle.gfx_model.specs.Checks as words;
 use crate::answers::Answers;
 use crate::broken::first_broken;
 use crate::checks::Check;
+use crate::ids::{new_fault, room_fault};
+use crate::resources::{live_fault, owned_fault};
 use gfx_types::{Fault, Kind};
 
 /// The fault of CreateInstance.
@@ -158,19 +160,20 @@ pub fn reset_command_pool<A: Answers>(answers: &A, device: u64, pool: u64) -> Op
 }
 
 /// The fault of CreateFence.
-#[tactic(auto, unfolding(gfx_model::specs::Table::row_of))]
+#[tactic(auto, unfolding(gfx_model::specs::Table::row_of, gfx_model::specs::Checks::broken))]
 pub fn create_fence<A: Answers>(answers: &A, device: u64, fence: u64, flags: u32) -> Option<Fault>
     ensures { result ≡ words.first_broken (A.view answers.now) (row_of (CreateFence device fence flags)) }
 {
-    first_broken(
-        answers,
-        &[
-            Check::Live(Kind::Device, device),
-            Check::New(fence),
-            Check::Must(Fault::BadValue, flags <= 1),
-            Check::Room(1),
-        ],
-    )
+    if let Some(fault) = live_fault(answers, Kind::Device, device) {
+        return Some(fault);
+    }
+    if let Some(fault) = new_fault(answers, fence) {
+        return Some(fault);
+    }
+    if 1 < flags {
+        return Some(Fault::BadValue);
+    }
+    room_fault(answers, 1)
 }
 
 /// The fault of DestroyFence.
@@ -178,29 +181,21 @@ pub fn create_fence<A: Answers>(answers: &A, device: u64, fence: u64, flags: u32
 pub fn destroy_fence<A: Answers>(answers: &A, device: u64, fence: u64) -> Option<Fault>
     ensures { result ≡ words.first_broken (A.view answers.now) (row_of (DestroyFence device fence)) }
 {
-    first_broken(
-        answers,
-        &[
-            Check::Live(Kind::Device, device),
-            Check::Live(Kind::Fence, fence),
-            Check::Of(fence, device),
-        ],
-    )
+    owned_fault(answers, Kind::Fence, device, fence)
 }
 
 /// The fault of CreateSemaphore.
-#[tactic(auto, unfolding(gfx_model::specs::Table::row_of))]
+#[tactic(auto, unfolding(gfx_model::specs::Table::row_of, gfx_model::specs::Checks::broken))]
 pub fn create_semaphore<A: Answers>(answers: &A, device: u64, semaphore: u64) -> Option<Fault>
     ensures { result ≡ words.first_broken (A.view answers.now) (row_of (CreateSemaphore device semaphore)) }
 {
-    first_broken(
-        answers,
-        &[
-            Check::Live(Kind::Device, device),
-            Check::New(semaphore),
-            Check::Room(1),
-        ],
-    )
+    if let Some(fault) = live_fault(answers, Kind::Device, device) {
+        return Some(fault);
+    }
+    if let Some(fault) = new_fault(answers, semaphore) {
+        return Some(fault);
+    }
+    room_fault(answers, 1)
 }
 
 /// The fault of DestroySemaphore.
@@ -208,12 +203,5 @@ pub fn create_semaphore<A: Answers>(answers: &A, device: u64, semaphore: u64) ->
 pub fn destroy_semaphore<A: Answers>(answers: &A, device: u64, semaphore: u64) -> Option<Fault>
     ensures { result ≡ words.first_broken (A.view answers.now) (row_of (DestroySemaphore device semaphore)) }
 {
-    first_broken(
-        answers,
-        &[
-            Check::Live(Kind::Device, device),
-            Check::Live(Kind::Semaphore, semaphore),
-            Check::Of(semaphore, device),
-        ],
-    )
+    owned_fault(answers, Kind::Semaphore, device, semaphore)
 }

@@ -5,8 +5,8 @@ ghost use Rattle.gfx_model.specs.Table as table;
 ghost use Rattle.gfx_model.specs.Checks as words;
 
 use crate::answers::Answers;
-use crate::broken::first_broken;
-use crate::checks::Check;
+use crate::checks::first;
+use crate::resources::{begin_fault, end_fault};
 use crate::values::sum;
 use gfx_types::Fault;
 
@@ -15,12 +15,12 @@ pub fn span<A: Answers>(answers: &A, id: u64, offset: u64, size: u64) -> Option<
     ensures { result ≡ words.first_broken (A.view answers.now) (table.span id offset size) }
 {
     if size == u64::MAX {
-        first_broken(answers, &[Check::BeginsIn(id, offset)])
+        begin_fault(answers, id, offset)
     } else {
         let end = sum(offset, size);
-        first_broken(
-            answers,
-            &[Check::BeginsIn(id, offset), Check::EndsIn(id, end)],
+        first(
+            begin_fault(answers, id, offset),
+            end_fault(answers, id, end),
         )
     }
 }

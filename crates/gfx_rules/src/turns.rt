@@ -1,10 +1,10 @@
 //! The turns of a submit, each on what the turns before it leave.
 
-ghost use Rattle.std.specs.Prelude.{◌≡◌, ◌<◌, Bool, ℕ, length, map, take, flat_map};
+ghost use Rattle.std.specs.Prelude.{◌≡◌, ◌<◌, ◌≤◌, ◌↔◌, Bool, ℕ, Some, None, IsTrue, IfSome, length, map, take, flat_map};
 ghost use Rattle.gfx_types.specs.declared.names.Fault.TheVariants.{SignalState};
 ghost use Rattle.gfx_model.specs.Checks as words;
 ghost use Rattle.gfx_model.specs.Layouts.{cbs_at, layouts_by};
-ghost use Rattle.gfx_rules.specs.Turns.{AreFew, signals_after, signals_behind, turns_at};
+ghost use Rattle.gfx_rules.specs.Turns.{AreFew, IsFirstDiffering, signals_after, signals_behind, turns_at};
 
 use crate::answers::Answers;
 use crate::checks::first;
@@ -81,24 +81,39 @@ fn signals_fault<A: Answers>(
     None
 }
 
-/// 21 unless each command buffer of a submit is executable, 23 unless it meets its layouts.
+/// Whether a place of a call is this one.
+fn is_place(place: Option<(u32, u32)>, submit: u32, at: u32) -> bool
+    ensures { IsTrue result ↔ place ≡ Some (submit, at) }
+{
+    match place {
+        Some((its_submit, its_at)) => its_submit == submit && its_at == at,
+        None => false,
+    }
+}
+
+/// 21 unless each command buffer of a submit is executable, 23 unless it meets its layouts, where no earlier submit of
+/// the call has one that does not.
 fn executes_fault<A: Answers>(
     answers: &A,
     submits: &Submits,
     submit: u32,
     cbs: &[u64],
+    differing: Option<(u32, u32)>,
 ) -> Option<Fault>
     requires few { AreFew submits.now }
     requires submit { submit < length submits.now }
     requires cbs { cbs.now ≡ cbs_at submits.now submit }
-    ensures { let v = A.view answers.now in let before = flat_map (λ s. s.cbs) (take submit submits.now) in
+    requires first { IsFirstDiffering (A.view answers.now) submits.now differing }
+    requires earlier { IfSome differing (λ place. submit ≤ place.0) }
+    ensures passed { result ≡ None → IfSome differing (λ place. submit < place.0) }
+    ensures fault { let v = A.view answers.now in let before = flat_map (λ s. s.cbs) (take submit submits.now) in
         (signalled : ℕ → Bool) → result ≡ words.turns_fault v signalled (layouts_by v.buffer v.layout before) (map words.Turn.execute cbs.now) }
 {
     'cbs: for (at, cb) in cbs.iter().enumerate() {
         if !answers.is_executable(*cb) {
             return Some(Fault::CommandState);
         }
-        if !answers.meets_layouts(submits, submit, at as u32) {
+        if is_place(differing, submit, at as u32) {
             return Some(Fault::LayoutDiffers);
         }
     }
@@ -106,17 +121,25 @@ fn executes_fault<A: Answers>(
 }
 
 /// The fault of a submit's first turn that has one, behind the submits before it.
-fn submit_fault<A: Answers>(answers: &A, submits: &Submits, at: u32) -> Option<Fault>
+fn submit_fault<A: Answers>(
+    answers: &A,
+    submits: &Submits,
+    at: u32,
+    differing: Option<(u32, u32)>,
+) -> Option<Fault>
     requires few { AreFew submits.now }
     requires at { at < length submits.now }
-    ensures { let v = A.view answers.now in let before = take at submits.now in
+    requires first { IsFirstDiffering (A.view answers.now) submits.now differing }
+    requires earlier { IfSome differing (λ place. at ≤ place.0) }
+    ensures passed { result ≡ None → IfSome differing (λ place. at < place.0) }
+    ensures fault { let v = A.view answers.now in let before = take at submits.now in
         result ≡ words.turns_fault v (signals_behind v.signalled before) (layouts_by v.buffer v.layout (flat_map (λ s. s.cbs) before)) (turns_at submits.now at) }
 {
     let all = submits.items();
     let submit = &all[at as usize];
     let before = &all[..at as usize];
     let waited = waits_fault(answers, before, submit.waits.items());
-    let executed = executes_fault(answers, submits, at, submit.cbs.items());
+    let executed = executes_fault(answers, submits, at, submit.cbs.items(), differing);
     let signalled = signals_fault(
         answers,
         before,
@@ -127,12 +150,17 @@ fn submit_fault<A: Answers>(answers: &A, submits: &Submits, at: u32) -> Option<F
 }
 
 /// The fault of the first turn of the submits that has one.
-fn submits_fault<A: Answers>(answers: &A, submits: &Submits) -> Option<Fault>
-    requires { AreFew submits.now }
+fn submits_fault<A: Answers>(
+    answers: &A,
+    submits: &Submits,
+    differing: Option<(u32, u32)>,
+) -> Option<Fault>
+    requires few { AreFew submits.now }
+    requires first { IsFirstDiffering (A.view answers.now) submits.now differing }
     ensures { let v = A.view answers.now in result ≡ words.turns_fault v v.signalled v.layout (flat_map words.turns_of_submit submits.now) }
 {
     'submits: for at in 0..submits.items().len() {
-        if let Some(fault) = submit_fault(answers, submits, at as u32) {
+        if let Some(fault) = submit_fault(answers, submits, at as u32, differing) {
             return Some(fault);
         }
     }
@@ -144,7 +172,7 @@ pub fn turns_fault<A: Answers>(answers: &A, submits: &Submits, fence: u64) -> Op
     requires { AreFew submits.now }
     ensures { let v = A.view answers.now in result ≡ words.turns_fault v v.signalled v.layout (words.turns_of submits.now fence) }
 {
-    let all = submits_fault(answers, submits);
+    let all = submits_fault(answers, submits, answers.differs_at(submits));
     if fence == 0 {
         all
     } else {

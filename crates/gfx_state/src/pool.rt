@@ -7,7 +7,7 @@ ghost use Rattle.gfx_model.specs.Spelling.{payload};
 ghost use Rattle.gfx_model.specs.Questions.{is_kept};
 ghost use Rattle.gfx_model.specs.Section as section;
 ghost use Rattle.gfx_objects.specs.Objects.{answers};
-ghost use Rattle.gfx_commands.specs.Recorded.{event_in, IsRecorded};
+ghost use Rattle.gfx_commands.specs.Recorded.{event_with, AreFields};
 ghost use Rattle.gfx_commands.specs.Recordings.{buffers};
 ghost use Rattle.gfx_state.specs.Ids.{children_in};
 ghost use Rattle.gfx_state.specs.Pools.{CommandsFit, recorded_anew};
@@ -34,9 +34,9 @@ fn write_command<K: Sink>(
     call_id: u32,
     params: &[u8],
 ) -> Result<(), StateFault>
-    requires recorded { IsRecorded (record { call_id = call_id; params = params.now }) }
-    requires small { length (payload 1 0 (event_in (record { call_id = call_id; params = params.now }))) ≤ max_payload }
-    ensures { Wrote (K.taken sink.old) (K.taken sink.new) (K.faults sink.old) (K.faults sink.new) (event_in (record { call_id = call_id; params = params.now }) ∷ []) result }
+    requires recorded { AreFields call_id params.now }
+    requires small { length (payload 1 0 (event_with call_id params.now)) ≤ max_payload }
+    ensures { Wrote (K.taken sink.old) (K.taken sink.new) (K.faults sink.old) (K.faults sink.new) (event_with call_id params.now ∷ []) result }
 {
     match decode(room.alloc, 1, call_id, params) {
         Ok(call) => write_effect(sink, room, &Effect::Call(call)),
@@ -59,7 +59,7 @@ fn write_commands<K: Sink>(
     let _totals = recordings.totals();
     let mut k = 0;
     'commands: while let Some(command) = recordings.command(cb, k) {
-        write_command(sink, room, command.call_id, command.params.items())?;
+        write_command(sink, room, command.call_id, command.params)?;
         k += 1;
     }
     Ok(())

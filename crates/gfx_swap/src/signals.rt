@@ -3,7 +3,7 @@ ghost use Rattle.std.specs.Prelude.{◌≡◌, IsSome, OnOk, OnErr};
 ghost use Rattle.std.specs.FinMap as map;
 ghost use Rattle.gfx_swap.specs.Signals.{is_signalled};
 
-use gfx_table::Table;
+use gfx_table::Slotted;
 use gfx_types::WantMemory;
 use std::alloc::Global;
 use std::marker::Model;
@@ -11,7 +11,7 @@ use std::marker::Model;
 /// Whether each kept fence and semaphore is signalled.
 #[derive(Drop)]
 pub struct Sync {
-    signals: Table<bool>,
+    signals: Slotted<bool>,
 }
 
 impl Model for Sync {
@@ -33,7 +33,7 @@ impl Sync {
         ensures { result ≡ map.empty }
     {
         Sync {
-            signals: Table::new(alloc),
+            signals: Slotted::new(alloc),
         }
     }
 

@@ -11,7 +11,7 @@ use Rattle.std.specs.FinMap.{FinMap, find, entries, get-entries, get-from_entrie
 use Rattle.gfx_table.specs.Joined.{joined, IsApart}
 
 module _ {X : Type 0} where
-  same_keys : (m n : FinMap nat_cmp X) → ((q : ℕ) → map.get m q ≡ map.get n q) → m ≡ n
+  pub same_keys : (m n : FinMap nat_cmp X) → ((q : ℕ) → map.get m q ≡ map.get n q) → m ≡ n
   same_keys m n is = same_map nat_cmp_total nat_cmp-IsAntisymmetric m n is
 
   -- a tree's look-up is that of its entries
@@ -19,7 +19,7 @@ module _ {X : Type 0} where
   lookup_find [] q = refl
   lookup_find (e ∷ es) q = ap (λ r. cond (eq_by_cmp nat_cmp q e.0) (Some e.1) r) (lookup_find es q)
 
-  find_append : (es fs : List (ℕ × X)) (q : ℕ) → find nat_cmp q (es ++ fs) ≡ option_or (find nat_cmp q es) (find nat_cmp q fs)
+  pub find_append : (es fs : List (ℕ × X)) (q : ℕ) → find nat_cmp q (es ++ fs) ≡ option_or (find nat_cmp q es) (find nat_cmp q fs)
   find_append [] fs q = refl
   find_append (e ∷ es) fs q = let rest = find_append es fs q in grind arith
 
@@ -33,7 +33,7 @@ module _ {X : Type 0} where
   pub got : (es : List (ℕ × X)) (m : FinMap nat_cmp X) (q : ℕ) (o : Option X) → o ≡ lookup (is_at (nat_cmp q)) es → option_or o (map.get m q) ≡ map.get (joined es m) q
   got es m q o e = ap (λ o. option_or o (map.get m q)) e ∙ sym (get-joined es m q)
 
-  option_or-None : (o : Option X) → option_or o None ≡ o
+  pub option_or-None : (o : Option X) → option_or o None ≡ o
   option_or-None None = refl
   option_or-None (Some x) = refl
 

@@ -1,5 +1,7 @@
 mod Bits
-mod Changing
 mod Joining
 mod Leasts
+mod Densing
+mod Grouping
 mod Places
+mod Slotting

@@ -1,4 +1,7 @@
 pub mod Slots
+pub mod Slotted
+pub mod Dense
+pub mod Groups
 pub mod Values
 pub mod Joined
 pub mod Least

@@ -1,12 +1,16 @@
-//! Rows under ids, in the order of the ids, and a set of the ids that were ever used. Both have places that are
+//! Rows under ids, in the order of the ids or without it, and a set of the ids that were ever used. All have places that are
 //! reserved before they are needed, so that a change in the middle of a call cannot fail.
 #![tactic(auto)]
 
-mod change;
+mod dense;
+mod groups;
 mod ordered;
+mod slotted;
 mod spill;
 mod used;
 
-pub use change::RowChange;
+pub use dense::Dense;
+pub use groups::Groups;
 pub use ordered::Table;
+pub use slotted::Slotted;
 pub use used::UsedIds;

@@ -3,10 +3,8 @@ ghost use Rattle.std.specs.Prelude.{◌≡◌, ◌+◌, ◌≤◌, ◌↔◌, Is
 ghost use Rattle.std.specs.Option.{option_copied};
 ghost use Rattle.std.specs.FinMap as map;
 ghost use Rattle.gfx_table.specs.Slots.{least_above};
-ghost use Rattle.gfx_table.specs.Values.{with_rows};
 ghost use Rattle.gfx_table.specs.Least.{lesser_of, least_in};
 
-use crate::change::RowChange;
 use crate::spill::SpillList;
 use std::alloc::{AllocError, Global};
 use std::collections::BTreeMap;
@@ -115,15 +113,6 @@ impl<V: Drop> Table<V> {
             Some(row) => Some(row),
             None => self.spilled.remove(id),
         }
-    }
-
-    /// Makes the change to each row, and lets go of those that it does not keep.
-    pub fn change_rows<C: RowChange<V>>(&mut self, rule: &C)
-        ensures map { self.new.map ≡ with_rows (C.becomes rule.now) self.old.map }
-        ensures spare { self.old.spare ≤ self.new.spare }
-    {
-        self.rows.retain(|id, row| rule.change(*id, row));
-        self.spilled.change_rows(rule);
     }
 
     /// The least id above the given one.

@@ -3,9 +3,7 @@ ghost use Rattle.std.specs.Prelude.{◌≡◌, ◌+◌, ◌<◌, ◌≤◌, ◌^
 ghost use Rattle.std.specs.Option.{option_copied};
 ghost use Rattle.std.specs.FinMap as map;
 ghost use Rattle.gfx_table.specs.Slots.{IsRising, IsFoundAt, IsMissingAt, IsEndAt, least_above};
-ghost use Rattle.gfx_table.specs.Values.{with_rows};
 
-use crate::change::RowChange;
 use std::alloc::{AllocError, Global};
 use std::marker::Model;
 use std::mem;
@@ -134,14 +132,5 @@ impl<V: Drop> SpillList<V> {
         } else {
             None
         }
-    }
-
-    /// Makes the change to each row.
-    pub(crate) fn change_rows<C: RowChange<V>>(&mut self, rule: &C)
-        ensures map { self.new.map ≡ with_rows (C.becomes rule.now) self.old.map }
-        ensures spare { self.old.spare ≤ self.new.spare }
-    {
-        self.entries
-            .retain_mut(|entry| rule.change(entry.0, &mut entry.1));
     }
 }

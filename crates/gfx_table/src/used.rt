@@ -2,7 +2,7 @@
 ghost use Rattle.std.specs.Prelude.{◌≡◌, ◌+◌, ◌≤◌, ◌==◌, ◌||◌, false, OnOk};
 ghost use Rattle.gfx_table.specs.Used.{holds};
 
-use crate::ordered::Table;
+use crate::slotted::Slotted;
 use std::alloc::{AllocError, Global};
 use std::marker::Model;
 
@@ -10,7 +10,7 @@ use std::marker::Model;
 /// memory, and ids that lie apart one row each.
 #[derive(Drop)]
 pub struct UsedIds {
-    words: Table<u64>,
+    words: Slotted<u64>,
 }
 
 impl Model for UsedIds {
@@ -31,7 +31,7 @@ impl UsedIds {
         ensures { holds result ≡ (λ id. false) }
     {
         UsedIds {
-            words: Table::new(alloc),
+            words: Slotted::new(alloc),
         }
     }
 

@@ -4,11 +4,13 @@ use Rattle.std.proofs.lemmas.Bool.{and_parts, both_ways, eqb-true}
 use Rattle.std.proofs.lemmas.Bool.Decides.{nat_tests}
 use Rattle.gfx_types.specs.declared.names.Kind.TheVariants as kind
 use Rattle.gfx_model.specs.Events.{Event}
-use Rattle.gfx_model.specs.Steps.{Step, Object, Detail}
+use Rattle.gfx_table.specs.Dense.{is_listed}
+use Rattle.gfx_model.specs.Steps.{Step, Object, Detail, kind_of, kind_number}
+use Rattle.gfx_model.specs.Steps.Detail.{a_command_buffer}
 use Rattle.gfx_model.specs.Steps.Change.{set_layout}
 use Rattle.gfx_model.specs.Steps.Step.{creates, ends, binds, maps, unmaps, begins, records, finishes, resets, resets_pool, executed, signals, unsignals, acquires, gives_back, changes}
 use Rattle.gfx_model.specs.Questions as asked
-use Rattle.gfx_model.specs.Questions.{State, Buffer, new_buffer, is_kept, is_once, invalidated, passes, is_in_pool, goes_with, after_end}
+use Rattle.gfx_model.specs.Questions.{State, Buffer, new_buffer, is_kept, is_once, invalidated, passes, is_in_pool, is_owned, goes_with, after_end}
 use Rattle.gfx_model.specs.Views.{View, is_live, view_of}
 use Rattle.gfx_model.specs.Checks.{is_initial}
 use Rattle.gfx_model.specs.After.{after, is_gone, is_alive, buffer_after_end}
@@ -214,6 +216,33 @@ module _ (r : View) (b c : ℕ → Buffer) (n : ℕ) (e : Bool) (s : Option ℕ)
   pub pool_gathered : (pool : ℕ) → c ≡ (λ x. if passes (is_in_pool pool) (r.live x) then new_buffer else b x) → gathered r c n false s ≡ after (gathered r b n e s) (resets_pool pool)
   unfolding after
   pool_gathered pool is = ap (λ (c : ℕ → Buffer). gathered r c n false s) is
+
+  -- what a pool does not own is no command buffer, and as a new one
+  pub owned_told : (pool : ℕ) (xs : List ℕ) → ((x : ℕ) → is_listed x xs ≡ passes (λ o. is_owned o.detail && pool == o.parent) (r.live x))
+      → c ≡ (λ x. if is_listed x xs then new_buffer else b x) → c ≡ (λ x. if passes (is_in_pool pool) (r.live x) then new_buffer else b x)
+  owned_told pool xs all is = λ j x. (ap (λ (c : ℕ → Buffer). c x) is ∙ ap (λ t. if t then new_buffer else b x) (all x) ∙ by x (r.live x) refl) j
+    where
+      other : (d : Detail) → is_owned d ≡ false → (kind_number (kind_of d) == 9) ≡ false
+      other a_command_buffer free = absurd cc
+      other _ free = refl
+
+      same : (x : ℕ) (t : Bool) → b x ≡ new_buffer → b x ≡ (if t then new_buffer else b x)
+      same x true new = new
+      same x false new = refl
+
+      turned : (p q : ℕ) → (p == q) ≡ (q == p)
+      turned p q = grind (arith, nat_tests)
+
+      by : (x : ℕ) (l : Option Object) → r.live x ≡ l
+          → (if passes (λ o. is_owned o.detail && pool == o.parent) l then new_buffer else b x) ≡ (if passes (is_in_pool pool) l then new_buffer else b x)
+      by x None is = refl
+      by x (Some o) is = at (is_owned o.detail) refl
+        where
+          at : (t : Bool) → is_owned o.detail ≡ t → (if is_owned o.detail && pool == o.parent then new_buffer else b x) ≡ (if o.parent == pool then new_buffer else b x)
+          at true owned = ap (λ t. if t && pool == o.parent then new_buffer else b x) owned ∙ ap (λ t. if t then new_buffer else b x) (turned pool o.parent)
+          at false free =
+              ap (λ t. if t && pool == o.parent then new_buffer else b x) free
+              ∙ same x (o.parent == pool) (new_is (b x) (plain.plain x (ap (passes is_command_buffer) is ∙ other o.detail free)))
 
   pub executed_plain : (cb : ℕ) → c ≡ (λ x. invalidated (cb == x && is_once (b x)) (b x)) → IsPlain r.live c
   executed_plain cb is = record { plain = λ x dead. ap (λ (c : ℕ → Buffer). is_new (c x)) is ∙ new_stays _ (b x) (plain.plain x dead) }

@@ -1,7 +1,9 @@
 pub mod Told
 pub mod Registered
 pub mod Gathered
+pub mod Meeting
 pub mod EndedUsers
+pub mod Eaching
 pub mod Next
 pub mod Fetched
 pub mod Seeking

@@ -1,19 +1,18 @@
--- Going over the live ids of a kind, in search of objects.
-use Rattle.std.proofs.Common.{◌≡◌, ℕ, suc, ◌+◌, ◌-◌, ◌<◌, ◌≢◌, ◌==◌, Bool, true, false, List, [], ◌∷◌, ◌++◌, Option, Some, None, is_some, Result, Ok, Err, cond, refl, ap, sym, ◌∙◌, arith}
+-- Going over the ids of what an object owns, in search of objects.
+use Rattle.std.proofs.Common.{◌≡◌, ℕ, suc, ◌+◌, ◌-◌, ◌<◌, ◌≢◌, ◌==◌, ◌&&◌, Bool, true, false, List, [], ◌∷◌, ◌++◌, Option, Some, None, Result, Ok, Err, cond, refl, ap, sym, ◌∙◌, arith}
 use Rattle.std.specs.Prelude.{option_and_then, find, filter, flat_map, slice_get}
-use Rattle.std.specs.List.{list_any, range_with_len}
+use Rattle.std.specs.List.{range_with_len}
 use Rattle.std.specs.Result.{result_ok, IfOk, IfErr}
 use Rattle.std.specs.FinMap as map
-use Rattle.std.proofs.lemmas.Bool.Decides.{nat_tests}
-use Rattle.gfx_types.specs.declared.names.Kind.{Kind}
+use Rattle.gfx_table.specs.Slots.{least_above}
 use Rattle.gfx_table.specs.Values.{get-with_rows}
 use Rattle.gfx_table.specs.Rows.{ids, ids_above, ids-with_rows, above-zero, above-step, above-end}
-use Rattle.gfx_model.specs.Steps.{Object as Made, kind_of, kind_number}
-use Rattle.gfx_model.specs.Questions.{passes}
-use Rattle.gfx_model.specs.Views.{is_live, is_one}
+use Rattle.gfx_model.specs.Steps.{Object as Made}
+use Rattle.gfx_model.specs.Questions.{is_owned, passes}
+use Rattle.gfx_model.specs.Views.{is_one}
 use Rattle.gfx_objects.specs.declared.object.Object.{Object}
-use Rattle.gfx_objects.specs.Objects.{Kept, answers, next_of, IsSound, mark, of_kind}
-use Rattle.gfx_objects.proofs.Asked.{kind_answered, next_answered}
+use Rattle.gfx_objects.specs.Objects.{Kept, answers, IsSound, owner_mark, of_owner}
+use Rattle.gfx_objects.proofs.Asked.{owner_answered}
 use Rattle.gfx_tracker.specs.declared.sought.Sought.{Sought}
 use Rattle.gfx_tracker.specs.Sought.{is_sought, sought_in}
 
@@ -43,46 +42,38 @@ pub first_is : (p : ℕ → Bool) (xs : List ℕ) (r : Result ℕ ℕ) → IfOk 
 first_is p xs (Ok id) found passed = sym (found []) ∙ first_there p xs
 first_is p xs (Err left) found passed = sym (passed []) ∙ first_there p xs
 
-pub any_found : (p : ℕ → Bool) (xs : List ℕ) → is_some (find p xs) ≡ list_any p xs
-any_found p [] = refl
-any_found p (x ∷ xs) = by (p x) refl (any_found p xs)
-  where
-    by : (t : Bool) → p x ≡ t → is_some (find p xs) ≡ list_any p xs → is_some (find p (x ∷ xs)) ≡ list_any p (x ∷ xs)
-    by true is rest = let e = is in grind (arith, e)
-    by false is rest = let e = is in grind (arith, e, rest)
+-- ---- the ids of what is owned
 
--- ---- the ids of a kind
-
-module _ (k : Kept) (kind : Kind) (s : Sought) where
+module _ (k : Kept) (owner : ℕ) (s : Sought) where
   -- those that are sought, above an id
   abbrev pub sought_above : ℕ → List ℕ
-  sought_above after = filter (is_one (answers k) (is_sought s)) (ids_above after (of_kind kind k.rows))
+  sought_above after = filter (is_one (answers k) (is_sought s)) (ids_above after (of_owner owner k.rows))
 
-  no_zero : IsSound k → map.get (of_kind kind k.rows) 0 ≡ None
-  no_zero sound = get-with_rows (mark kind) k.rows 0 ∙ by (map.get k.rows 0) refl
+  no_zero : IsSound k → map.get (of_owner owner k.rows) 0 ≡ None
+  no_zero sound = get-with_rows (owner_mark owner) k.rows 0 ∙ by (map.get k.rows 0) refl
     where
-      by : (o : Option Object) → map.get k.rows 0 ≡ o → option_and_then (mark kind 0) o ≡ None
+      by : (o : Option Object) → map.get k.rows 0 ≡ o → option_and_then (owner_mark owner 0) o ≡ None
       by None none = refl
       by (Some o) some = let above = (sound.row 0 o some).not_zero in absurd (omega (arith, above))
 
-  module _ (of : (o : Made) → is_sought s o ≡ true → kind_number (kind_of o.detail) ≡ kind_number kind) where
-    live_kind : (x : ℕ) → is_one (answers k) (is_sought s) x ≡ true → is_live (answers k) kind x ≡ true
-    live_kind x is = by ((answers k).live x) is
+  module _ (of : (o : Made) → is_sought s o ≡ true → (is_owned o.detail && owner == o.parent) ≡ true) where
+    owned_sought : (x : ℕ) → is_one (answers k) (is_sought s) x ≡ true → passes (λ o. is_owned o.detail && owner == o.parent) ((answers k).live x) ≡ true
+    owned_sought x is = by ((answers k).live x) is
       where
-        by : (o : Option Made) → passes (is_sought s) o ≡ true → passes (λ o. kind_number (kind_of o.detail) == kind_number kind) o ≡ true
+        by : (o : Option Made) → passes (is_sought s) o ≡ true → passes (λ o. is_owned o.detail && owner == o.parent) o ≡ true
         by None is = is
-        by (Some o) is = let same = of o is in grind (arith, nat_tests, same)
+        by (Some o) is = of o is
 
     pub all_sought : IsSound k → sought_above 0 ≡ sought_in (answers k) s
     unfolding answers
     all_sought sound =
-        ap (filter (is_one (answers k) (is_sought s))) (above-zero (of_kind kind k.rows) (no_zero sound) ∙ ids-with_rows (mark kind) k.rows
-        ∙ ap (λ f. filter f (ids k.rows)) (λ i x. (kind_answered k sound kind x) i))
-        ∙ filter_within (is_one (answers k) (is_sought s)) (is_live (answers k) kind) (ids k.rows) live_kind
+        ap (filter (is_one (answers k) (is_sought s))) (above-zero (of_owner owner k.rows) (no_zero sound) ∙ ids-with_rows (owner_mark owner) k.rows
+        ∙ ap (λ f. filter f (ids k.rows)) (λ i x. (owner_answered k owner x) i))
+        ∙ filter_within (is_one (answers k) (is_sought s)) (λ x. passes (λ o. is_owned o.detail && owner == o.parent) ((answers k).live x)) (ids k.rows) owned_sought
 
-  module _ (after id : ℕ) (sound : IsSound k) (next : next_of (answers k) kind after ≡ Some id) where
+  module _ (after id : ℕ) (next : least_above (of_owner owner k.rows) after ≡ Some id) where
     step : sought_above after ≡ cond (is_one (answers k) (is_sought s) id) (id ∷ sought_above id) (sought_above id)
-    step = ap (filter (is_one (answers k) (is_sought s))) (above-step (of_kind kind k.rows) after id (next_answered k sound kind after ∙ next))
+    step = ap (filter (is_one (answers k) (is_sought s))) (above-step (of_owner owner k.rows) after id next)
 
     pub step_met : is_one (answers k) (is_sought s) id ≡ true → sought_above after ≡ id ∷ sought_above id
     step_met met = step ∙ ap (λ t. cond t (id ∷ sought_above id) (sought_above id)) met
@@ -99,8 +90,8 @@ module _ (k : Kept) (kind : Kind) (s : Sought) where
         let one_less : left ≡ suc (left - 1) = omega arith in
         ap (λ l. slice_get (l ++ more) left) (step_met met) ∙ ap (slice_get (id ∷ (sought_above id ++ more))) one_less
 
-  pub at_end : (after : ℕ) → IsSound k → next_of (answers k) kind after ≡ None → sought_above after ≡ []
-  at_end after sound none = ap (filter (is_one (answers k) (is_sought s))) (above-end (of_kind kind k.rows) after (next_answered k sound kind after ∙ none))
+  pub at_end : (after : ℕ) → least_above (of_owner owner k.rows) after ≡ None → sought_above after ≡ []
+  at_end after none = ap (filter (is_one (answers k) (is_sought s))) (above-end (of_owner owner k.rows) after none)
 
 -- ---- lists behind one another
 

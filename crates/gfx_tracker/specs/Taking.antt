@@ -1,5 +1,5 @@
 -- An effect that may be taken, and what stands after it.
-use Rattle.std.specs.Prelude.{◌≡◌, ◌<◌, ◌≤◌, ◌+◌, ◌^◌, ◌||◌, ℕ, true, false, IsTrue, [], None, is_some, fold}
+use Rattle.std.specs.Prelude.{◌≡◌, ◌<◌, ◌≤◌, ◌+◌, ◌||◌, ℕ, true, false, IsTrue, [], None, is_some, fold}
 use Rattle.gfx_model.specs.Events.{Event}
 use Rattle.gfx_model.specs.Steps.{Detail}
 use Rattle.gfx_types.specs.declared.names.Kind.TheVariants as kind

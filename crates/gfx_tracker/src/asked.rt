@@ -25,6 +25,10 @@ impl Answers for State {
         }
     }
 
+    fn device_of(&self, id: u64) -> u64 {
+        self.registry.objects.device_of(id)
+    }
+
     fn was_used(&self, id: u64) -> bool {
         self.registry.objects.was_used(id)
     }
@@ -141,10 +145,8 @@ impl Answers for State {
         self.section
     }
 
-    fn meets_layouts(&self, submits: &Submits, submit: u32, at: u32) -> bool {
-        !self
-            .recordings
-            .layout_differs(submits, submit, at, &self.registry.objects)
+    fn differs_at(&self, submits: &Submits) -> Option<(u32, u32)> {
+        self.recordings.differs_at(submits, &self.registry.objects)
     }
 }
 

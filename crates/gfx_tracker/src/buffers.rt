@@ -27,7 +27,7 @@ pub(crate) fn allocate_command_buffers(
     ensures ok { OnOk result (state_answers state.new ≡ after_event (state_answers state.old) (AllocateCommandBuffers _device pool buffers.now)) }
     ensures err { OnErr result (state_answers state.new ≡ state_answers state.old) }
 {
-    state.reserve(buffers.len() as u32)?;
+    state.reserve(buffers.len() as u32, pool)?;
     'buffers: for buffer in buffers {
         state.create_owned(*buffer, pool, Detail::CommandBuffer);
     }

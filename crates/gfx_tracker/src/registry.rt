@@ -8,6 +8,7 @@ ghost use Rattle.gfx_model.specs.Views as view;
 ghost use Rattle.gfx_model.specs.After.{after};
 ghost use Rattle.gfx_model.specs.Questions.{passes};
 ghost use Rattle.gfx_model.specs.Limits.{max_live_bytes, max_live_objects};
+ghost use Rattle.gfx_table.specs.Groups.{room_in};
 ghost use Rattle.gfx_laws.specs.Lawful.{has_signal};
 ghost use Rattle.gfx_objects.specs.Object.{detail_of, IsNew, is_within};
 ghost use Rattle.gfx_tracker.specs.Registered.{IsRegistered, images_of, with_signal, without_signal, with_images, without_images};
@@ -40,12 +41,13 @@ impl Registry {
         }
     }
 
-    /// Makes room for so many creations.
-    pub(crate) fn reserve(&mut self, n: u32) -> Result<(), WantMemory>
+    /// Makes room for so many creations, and for as many in what the owner owns.
+    pub(crate) fn reserve(&mut self, n: u32, owner: u64) -> Result<(), WantMemory>
         ensures same { answers_of self.new ≡ answers_of self.old }
         ensures ok { OnOk result (n ≤ self.new.objects.spare) }
+        ensures room { OnOk result (n ≤ room_in self.new.objects.owned owner) }
     {
-        self.objects.reserve(n)
+        self.objects.reserve(n, owner)
     }
 
     /// Creates an object, a fence or semaphore unsignalled, a swapchain with no image acquired. For want of memory all
@@ -61,7 +63,7 @@ impl Registry {
         ensures ok { OnOk result (answers_of self.new ≡ after (answers_of self.old) (creates id parent (detail_of detail))) }
         ensures err { OnErr result (answers_of self.new ≡ answers_of self.old) }
     {
-        self.objects.reserve(1)?;
+        self.objects.reserve(1, parent)?;
         keep(&mut self.signals, &mut self.images, id, &detail)?;
         self.objects.create(id, parent, detail);
         Ok(())
@@ -79,8 +81,10 @@ impl Registry {
         requires room { view.object_count (answers_of self.old) < max_live_objects }
         requires bytes { view.live_bytes (answers_of self.old) + view.detail_bytes (detail_of detail) ≤ max_live_bytes }
         requires spare { 1 ≤ self.old.objects.spare }
+        requires owner { 1 ≤ room_in self.old.objects.owned parent }
         ensures step { answers_of self.new ≡ after (answers_of self.old) (creates id parent (detail_of detail)) }
         ensures spare { self.new.objects.spare + 1 ≡ self.old.objects.spare }
+        ensures owner { room_in self.old.objects.owned parent ≤ room_in self.new.objects.owned parent + 1 }
     {
         self.objects.create(id, parent, detail);
     }
@@ -97,14 +101,16 @@ impl Registry {
         self.objects.remove(id);
     }
 
-    /// Binds a live buffer or image to a live memory, at an offset in bytes from which it ends inside the memory.
-    pub(crate) fn bind(&mut self, id: u64, memory: u64, offset: u64)
+    /// Binds a live buffer or image to a live memory, at an offset in bytes from which it ends inside the memory. For
+    /// want of memory all is as it was.
+    pub(crate) fn bind(&mut self, id: u64, memory: u64, offset: u64) -> Result<(), WantMemory>
         requires resource { IsTrue (view.is_live (answers_of self.old) kind.Buffer id || view.is_live (answers_of self.old) kind.Image id) }
         requires memory { IsTrue (view.is_live (answers_of self.old) kind.Memory memory) }
         requires inside { offset + view.size_of (answers_of self.old) id ≤ view.size_of (answers_of self.old) memory }
-        ensures { answers_of self.new ≡ after (answers_of self.old) (binds id memory offset) }
+        ensures ok { OnOk result (answers_of self.new ≡ after (answers_of self.old) (binds id memory offset)) }
+        ensures err { OnErr result (answers_of self.new ≡ answers_of self.old) }
     {
-        self.objects.bind(id, memory, offset);
+        self.objects.bind(id, memory, offset)
     }
 
     /// Maps bytes of a live memory, from an offset on.

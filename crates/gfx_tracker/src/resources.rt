@@ -1,5 +1,5 @@
 //! The rows that map memory and bind resources.
-ghost use Rattle.std.specs.Prelude.{◌≡◌, ◌-◌, true, ◌==◌, if◌then◌else◌};
+ghost use Rattle.std.specs.Prelude.{◌≡◌, ◌-◌, true, ◌==◌, if◌then◌else◌, OnOk, OnErr};
 ghost use Rattle.gfx_types.specs.declared.names.Kind.TheVariants as kind;
 ghost use Rattle.gfx_model.specs.Events.Event.{MapMemory, UnmapMemory, BindBufferMemory, BindImageMemory};
 ghost use Rattle.gfx_model.specs.Views as view;
@@ -9,6 +9,7 @@ ghost use Rattle.gfx_tracker.specs.Taking.{after_event, IsNext};
 
 use crate::state::State;
 use gfx_objects::Objects;
+use gfx_types::WantMemory;
 
 /// The row of MapMemory; WHOLE_SIZE maps to the end.
 pub(crate) fn map_memory(state: &mut State, _device: u64, memory: u64, offset: u64, size: u64)
@@ -38,30 +39,32 @@ pub(crate) fn unmap_memory(state: &mut State, _device: u64, memory: u64)
     state.unmap(memory);
 }
 
-/// The row of BindBufferMemory.
+/// The row of BindBufferMemory. For want of memory all is as it was.
 pub(crate) fn bind_buffer_memory(
     state: &mut State,
     _device: u64,
     buffer: u64,
     memory: u64,
     offset: u64,
-)
+) -> Result<(), WantMemory>
     requires { IsNext (state_answers state.old) (BindBufferMemory _device buffer memory offset) }
-    ensures { state_answers state.new ≡ after_event (state_answers state.old) (BindBufferMemory _device buffer memory offset) }
+    ensures ok { OnOk result (state_answers state.new ≡ after_event (state_answers state.old) (BindBufferMemory _device buffer memory offset)) }
+    ensures err { OnErr result (state_answers state.new ≡ state_answers state.old) }
 {
-    state.bind(buffer, memory, offset);
+    state.bind(buffer, memory, offset)
 }
 
-/// The row of BindImageMemory.
+/// The row of BindImageMemory. For want of memory all is as it was.
 pub(crate) fn bind_image_memory(
     state: &mut State,
     _device: u64,
     image: u64,
     memory: u64,
     offset: u64,
-)
+) -> Result<(), WantMemory>
     requires { IsNext (state_answers state.old) (BindImageMemory _device image memory offset) }
-    ensures { state_answers state.new ≡ after_event (state_answers state.old) (BindImageMemory _device image memory offset) }
+    ensures ok { OnOk result (state_answers state.new ≡ after_event (state_answers state.old) (BindImageMemory _device image memory offset)) }
+    ensures err { OnErr result (state_answers state.new ≡ state_answers state.old) }
 {
-    state.bind(image, memory, offset);
+    state.bind(image, memory, offset)
 }

@@ -1,20 +1,18 @@
 //! Objects that are sought among the live ones.
-ghost use Rattle.std.specs.Prelude.{◌≡◌, ℕ, ◌++◌, List, true, Some, slice_get, find, IfOk, IfErr};
+ghost use Rattle.std.specs.Prelude.{◌≡◌, ℕ, ◌==◌, ◌&&◌, ◌++◌, List, true, Some, slice_get, find, IfOk, IfErr};
 ghost use Rattle.gfx_model.specs.Steps as steps;
+ghost use Rattle.gfx_model.specs.Questions as asked;
 ghost use Rattle.gfx_model.specs.Views as view;
 ghost use Rattle.gfx_objects.specs.Object.{made};
 ghost use Rattle.gfx_objects.specs.Objects.{answers};
 
 use gfx_objects::{Object, Objects};
-use gfx_types::Kind;
 
 /// What is sought among the live objects.
 #[derive(Clone, Copy)]
 pub(crate) enum Sought {
     /// The queues of a device.
     QueueOf(u64),
-    /// The swapchains on a surface.
-    SwapchainOn(u64),
     /// The images of a swapchain at an index.
     ImageAt(u64, u32),
 }
@@ -22,14 +20,13 @@ pub(crate) enum Sought {
 impl Sought {
     ghost use Rattle.gfx_tracker.specs.Sought.{is_sought, sought_in};
 
-    // The kind of all that are sought.
-    fn kind(self) -> Kind
-        ensures { (o : steps.Object) → is_sought self o ≡ true → steps.kind_number (steps.kind_of o.detail) ≡ steps.kind_number result }
+    // The object that owns all that are sought.
+    fn owner(self) -> u64
+        ensures { (o : steps.Object) → is_sought self o ≡ true → (asked.is_owned o.detail && result == o.parent) ≡ true }
     {
         match self {
-            Sought::QueueOf(_) => Kind::Queue,
-            Sought::SwapchainOn(_) => Kind::Swapchain,
-            Sought::ImageAt(_, _) => Kind::Image,
+            Sought::QueueOf(device) => device,
+            Sought::ImageAt(swapchain, _) => swapchain,
         }
     }
 
@@ -39,7 +36,6 @@ impl Sought {
     {
         match self {
             Sought::QueueOf(device) => object.parent == device && object.detail.is_queue(),
-            Sought::SwapchainOn(surface) => object.detail.is_on(surface),
             Sought::ImageAt(swapchain, index) => {
                 object.parent == swapchain && object.detail.has_index(index)
             }
@@ -62,10 +58,10 @@ impl Sought {
         ensures found { IfOk result (λ id. (more : List ℕ) → slice_get (sought_in (answers objects.now) self ++ more) place ≡ Some id) }
         ensures passed { IfErr result (λ left. (more : List ℕ) → slice_get (sought_in (answers objects.now) self ++ more) place ≡ slice_get more left) }
     {
-        let kind = self.kind();
+        let owner = self.owner();
         let mut left = place;
         let mut after = 0;
-        'ids: while let Some(id) = objects.next(kind, after) {
+        'ids: while let Some(id) = objects.next_owned(owner, after) {
             if self.is_met_at(objects, id) {
                 if left == 0 {
                     return Ok(id);
@@ -96,7 +92,7 @@ pub(crate) fn queue_of(objects: &Objects, device: u64) -> Option<u64>
 pub(crate) fn has_swapchain(objects: &Objects, surface: u64) -> bool
     ensures { result ≡ view.has_swapchain (answers objects.now) surface }
 {
-    Sought::SwapchainOn(surface).first(objects).is_some()
+    objects.has_swapchain(surface)
 }
 
 /// The fetched image of a swapchain at a place.

@@ -1,17 +1,20 @@
 //! What stands after the effects of a capture: objects, recordings, the next frame and the section.
 ghost use Rattle.std.specs.Prelude.{◌≡◌, ◌+◌, ◌<◌, ◌≤◌, ◌^◌, ◌==◌, ◌&&◌, ◌||◌, [], true, false, None, IsTrue, is_some, length, if◌then◌else◌, OnOk, OnErr};
+ghost use Rattle.std.specs.List.{list_any};
 ghost use Rattle.gfx_types.specs.declared.names.Kind.TheVariants as kind;
 ghost use Rattle.gfx_model.specs.Steps.Step.{taken, begins_section, ends_section, creates, ends, binds, maps, unmaps, begins, records, finishes, resets, resets_pool, executed, signals, unsignals, acquires, gives_back, changes, presents};
 ghost use Rattle.gfx_model.specs.Steps.Change.{set_layout};
 ghost use Rattle.gfx_model.specs.Events.{event_of_call};
 ghost use Rattle.gfx_model.specs.Spelling.{HasSpelling, spelling};
-ghost use Rattle.gfx_model.specs.Questions.{passes, new_buffer};
+ghost use Rattle.gfx_model.specs.Questions.{passes, new_buffer, invalidated};
 ghost use Rattle.gfx_model.specs.Checks.{is_recording};
 ghost use Rattle.gfx_model.specs.Views as view;
 ghost use Rattle.gfx_model.specs.After.{after, is_gone, buffer_after_end};
 ghost use Rattle.gfx_model.specs.Limits.{max_frame, max_kept_bytes, max_kept_commands};
+ghost use Rattle.gfx_table.specs.Groups.{room_in};
 ghost use Rattle.gfx_objects.specs.Object.{detail_of, IsNew};
 ghost use Rattle.gfx_objects.specs.Objects.{answers};
+ghost use Rattle.gfx_commands.specs.Recording.{names};
 ghost use Rattle.gfx_commands.specs.Recordings.{buffers, commands_total, bytes_total};
 ghost use Rattle.gfx_laws.specs.Lawful.{has_signal};
 ghost use Rattle.gfx_tracker.specs.Registered.{images_of};
@@ -82,13 +85,16 @@ impl State {
         self.is_empty = false;
     }
 
-    /// Binds a live buffer or image to a live memory, at an offset in bytes from which it ends inside the memory.
-    pub(crate) fn bind(&mut self, id: u64, memory: u64, offset: u64)
+    /// Binds a live buffer or image to a live memory, at an offset in bytes from which it ends inside the memory. For
+    /// want of memory all is as it was.
+    pub(crate) fn bind(&mut self, id: u64, memory: u64, offset: u64) -> Result<(), WantMemory>
         requires { MayBind (state_answers self.old) id memory offset }
-        ensures { state_answers self.new ≡ after (state_answers self.old) (binds id memory offset) }
+        ensures ok { OnOk result (state_answers self.new ≡ after (state_answers self.old) (binds id memory offset)) }
+        ensures err { OnErr result (state_answers self.new ≡ state_answers self.old) }
     {
-        self.registry.bind(id, memory, offset);
+        self.registry.bind(id, memory, offset)?;
         self.is_empty = false;
+        Ok(())
     }
 
     /// Maps bytes of a live memory, from an offset on.
@@ -109,12 +115,13 @@ impl State {
         self.is_empty = false;
     }
 
-    /// Makes room for so many creations.
-    pub(crate) fn reserve(&mut self, n: u32) -> Result<(), WantMemory>
+    /// Makes room for so many creations, and for as many in what the owner owns.
+    pub(crate) fn reserve(&mut self, n: u32, owner: u64) -> Result<(), WantMemory>
         ensures same { state_answers self.new ≡ state_answers self.old }
         ensures ok { OnOk result (n ≤ self.new.registry.objects.spare) }
+        ensures room { OnOk result (n ≤ room_in self.new.registry.objects.owned owner) }
     {
-        self.registry.reserve(n)
+        self.registry.reserve(n, owner)
     }
 
     /// Creates a queue, a command buffer or an image of a swapchain, for which there is room.
@@ -124,8 +131,10 @@ impl State {
         requires plain { has_signal (detail_of detail) ≡ false }
         requires bare { images_of (detail_of detail) ≡ None }
         requires spare { 1 ≤ self.old.registry.objects.spare }
+        requires owner { 1 ≤ room_in self.old.registry.objects.owned parent }
         ensures step { state_answers self.new ≡ after (state_answers self.old) (creates id parent (detail_of detail)) }
         ensures spare { self.new.registry.objects.spare + 1 ≡ self.old.registry.objects.spare }
+        ensures owner { room_in self.old.registry.objects.owned parent ≤ room_in self.new.registry.objects.owned parent + 1 }
     {
         self.registry.create_owned(id, parent, detail);
         self.is_empty = false;
@@ -226,7 +235,7 @@ impl State {
     pub(crate) fn reset_pool(&mut self, pool: u64)
         ensures { state_answers self.new ≡ after (state_answers self.old) (resets_pool pool) }
     {
-        self.recordings.reset_pool(pool, &self.registry.objects);
+        reset_each(&mut self.recordings, self.registry.objects.owned(pool));
         self.is_empty = false;
     }
 
@@ -285,11 +294,11 @@ fn end_users(recordings: &mut Recordings, objects: &Objects, gone: u64, kind: Ki
     ensures { buffers recordings.new ≡ (λ x. if is_gone (answers objects.now) gone x then new_buffer else buffer_after_end (answers objects.now) gone (buffers recordings.old x)) }
 {
     match kind {
-        Kind::Memory => recordings.end_object(gone, objects),
-        Kind::Swapchain => recordings.end_object(gone, objects),
+        Kind::Memory => invalidate_each(recordings, objects.resting(gone)),
+        Kind::Swapchain => invalidate_each(recordings, objects.owned(gone)),
         Kind::Buffer => recordings.invalidate_users(gone),
         Kind::Image => recordings.invalidate_users(gone),
-        Kind::Pool => recordings.reset_pool(gone, objects),
+        Kind::Pool => reset_each(recordings, objects.owned(gone)),
         Kind::CommandBuffer => recordings.reset(gone),
         Kind::Instance => {}
         Kind::Surface => {}
@@ -297,5 +306,23 @@ fn end_users(recordings: &mut Recordings, objects: &Objects, gone: u64, kind: Ki
         Kind::Queue => {}
         Kind::Fence => {}
         Kind::Semaphore => {}
+    }
+}
+
+// Command buffers are as new ones.
+fn reset_each(recordings: &mut Recordings, cbs: &[u64])
+    ensures { buffers recordings.new ≡ (λ x. if list_any (λ cb. cb == x) cbs.now then new_buffer else buffers recordings.old x) }
+{
+    'cbs: for cb in cbs {
+        recordings.reset(*cb);
+    }
+}
+
+// Command buffers that name one of the resources become invalid.
+fn invalidate_each(recordings: &mut Recordings, resources: &[u64])
+    ensures { buffers recordings.new ≡ (λ x. invalidated (list_any (λ r. names r (buffers recordings.old x)) resources.now) (buffers recordings.old x)) }
+{
+    'resources: for resource in resources {
+        recordings.invalidate_users(*resource);
     }
 }

@@ -42,7 +42,7 @@ pub(crate) fn get_swapchain_images(
         height,
         usage,
     } = shape_of(&state.registry.objects, swapchain);
-    state.reserve(images.len() as u32)?;
+    state.reserve(images.len() as u32, swapchain)?;
     'images: for index in 0..images.len() {
         let detail = Detail::Image {
             format,

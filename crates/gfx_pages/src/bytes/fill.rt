@@ -9,6 +9,9 @@ use crate::error::WantMemory;
 // The bytes that are written at once.
 const CHUNK: u64 = 4_096;
 
+// The most bytes that are written without a chunk.
+const FEW: u64 = 64;
+
 impl Bytes {
     /// Puts `word`, its least significant byte first, again and again into the `count` bytes from `at` on. After an
     /// error only those bytes are not known. A page that is absent stays so where the word is zero.
@@ -19,6 +22,9 @@ impl Bytes {
     {
         if word == 0 {
             return self.clear(at, count);
+        }
+        if count <= FEW {
+            return self.fill_few(at, count, word);
         }
         let _length = self.length();
         let mut buffer = [0u8; CHUNK as usize];
@@ -31,6 +37,20 @@ impl Bytes {
             done += size;
         }
         Ok(())
+    }
+
+    // The same for so few bytes that a chunk would cost more than they do.
+    fn fill_few(&mut self, at: u64, count: u64, word: u32) -> Result<(), WantMemory>
+        requires few { count ≤ 64 }
+        requires inside { at + count ≤ length self.old }
+        ensures ok { OnOk result (self.new ≡ overwrite self.old at (repeated word count)) }
+        ensures outside { KeepsOutside self.old self.new at count }
+    {
+        let _length = self.length();
+        let mut buffer = [0u8; FEW as usize];
+        let pattern = &mut buffer[..count as usize];
+        repeat(word, pattern);
+        self.write(at, pattern)
     }
 
     // Puts zeros into the `count` bytes from `at` on.

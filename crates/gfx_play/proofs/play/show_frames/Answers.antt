@@ -1,3 +1,4 @@
+use Rattle.std.proofs.Common.{arith, min}
 use Rattle.std.proofs.lemmas.Result.{err_from_is_err_and}
 use Rattle.gfx_play.proofs.Showing.{open_fails}
 use Rattle.gfx_play.proofs.play.show_frames.Goals as goal
@@ -12,3 +13,9 @@ show_opened-requires g c = (_, c.in_ok-player.ensures.plays)
 
 pub returns-clause-told : goal.returns-clause-told
 returns-clause-told g c = c.show_opened.ensures.told _ c.in_ok-player.ensures.plays
+
+pub returns-clause-read_fault : goal.returns-clause-read_fault
+returns-clause-read_fault g c is =
+    let later = c.open.ensures.later in
+    let rose = c.show_opened.ensures.read_fault is in
+    omega (arith, later, rose)

@@ -1,4 +1,4 @@
-use Rattle.std.proofs.Common.{◌-◌, ◌^◌}
+use Rattle.std.proofs.Common.{take}
 use Rattle.gfx_types.specs.declared.names.Kind.TheVariants as kind
 use Rattle.gfx_model.specs.Views.{is_live}
 use Rattle.gfx_objects.specs.Objects.{answers}
@@ -7,7 +7,4 @@ use Rattle.gfx_replay.proofs.Dropping.{AreDropped}
 use Rattle.gfx_replay.proofs.updates.drop_ended_images.Given as goal
 
 abbrev pub invariant-images : goal.invariant-images
-invariant-images l = AreDropped (bytes_in l.initial.places) (bytes_in l.places) (is_live (answers l.objects) kind.Image) l.after
-
-abbrev pub decreases-images : goal.decreases-images
-decreases-images l = 2 ^ 64 - l.after
+invariant-images l = AreDropped (bytes_in l.initial.places) (bytes_in l.places) (is_live (answers l.objects) kind.Image) (take l.image-index l.images)

@@ -1,7 +1,6 @@
 use Rattle.std.proofs.Common.{◌≡◌, ◌∷◌, ◌++◌, ◌==◌, ◌∙◌, None, Some, [], ap, subst, if◌then◌else◌, flat_map, refl}
 use Rattle.gfx_types.specs.declared.names.Fault.TheVariants.{CommandState}
 use Rattle.gfx_types.specs.declared.names.Kind.TheVariants as kind
-use Rattle.gfx_model.specs.Limits.{max_submits}
 use Rattle.gfx_model.specs.Table as table
 use Rattle.gfx_model.specs.Checks as words
 use Rattle.gfx_rules.proofs.Few.{front_of, are_few}

@@ -3,10 +3,16 @@ use Rattle.gfx_model.specs.Checks as words
 use Rattle.gfx_model.specs.Layouts.{layouts_by}
 use Rattle.gfx_rules.specs.Turns.{signals_after, signals_behind, turns_at}
 use Rattle.gfx_rules.proofs.Executed.{parts, sits}
+use Rattle.gfx_rules.proofs.Differing.{middle_none}
 use Rattle.gfx_rules.proofs.turns.submit_fault.Goals as goal
 
-pub returns : goal.returns
-returns g c =
+pub returns-clause-passed : goal.returns-clause-passed
+returns-clause-passed g c = λ none. c.executes_fault-executed.ensures.passed
+    (middle_none c.waits_fault-waited.result c.executes_fault-executed.result c.signals_fault-signalled.result c.first-2.result
+    (c.first-2.ensures ∙ ap (λ o. words.first o c.signals_fault-signalled.result) c.first.ensures) none)
+
+pub returns-clause-fault : goal.returns-clause-fault
+returns-clause-fault g c =
     let v = g.A.Answers.view c.args.answers.now in
     let all = c.items-all.result.now in
     let before = take c.args.at all in
@@ -18,7 +24,7 @@ returns g c =
     (c.first-2.ensures ∙ ap (λ o. words.first o c.signals_fault-signalled.result) c.first.ensures
     ∙ parts v f l s c.waits_fault-waited.result c.executes_fault-executed.result c.signals_fault-signalled.result
     (c.waits_fault-waited.ensures l ∙ ap (λ xs. words.turns_fault v f l (map words.Turn.wait xs)) c.items.ensures)
-    (λ h. c.executes_fault-executed.ensures h
+    (λ h. c.executes_fault-executed.ensures.fault h
     ∙ ap (λ xs. words.turns_fault v h (layouts_by v.buffer v.layout (flat_map (λ s. s.cbs) (take c.args.at xs))) (map words.Turn.execute c.items-2.result.now)) (sym c.items-all.ensures)
     ∙ ap (λ xs. words.turns_fault v h l (map words.Turn.execute xs)) c.items-2.ensures)
     (λ m. c.signals_fault-signalled.ensures m

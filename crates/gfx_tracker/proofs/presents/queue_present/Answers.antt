@@ -1,4 +1,4 @@
-use Rattle.std.proofs.Common.{ℕ, ◌≤◌, ◌<◌, ◌^◌, ◌∷◌, [], ◌++◌, map, ap, subst, sym, append_assoc, ◌∙◌}
+use Rattle.std.proofs.Common.{ℕ, ◌≤◌, ◌<◌, ◌∷◌, [], ◌++◌, map, ap, subst, sym, append_assoc, ◌∙◌}
 use Rattle.std.specs.Prelude.{fold}
 use Rattle.gfx_types.specs.declared.lists.Present.{Present}
 use Rattle.gfx_types.specs.declared.names.Kind.TheVariants as kind

@@ -1,4 +1,4 @@
-use Rattle.std.proofs.Common.{refl, ◌∙◌}
+use Rattle.std.proofs.Common.{◌≡◌, refl, subst, OnOk}
 use Rattle.gfx_model.specs.Events.Event.{BindImageMemory}
 use Rattle.gfx_model.specs.Spelling.{id_of}
 use Rattle.gfx_model.specs.Steps.Step.{binds}
@@ -17,8 +17,8 @@ bind-requires c =
     let all = all_pass v (checks_of (BindImageMemory c.args._device c.args.image c.args.memory c.args.offset)) c.requires.passes in
     image_binds v c.args.image c.args.memory c.args.offset all.1.0 all.1.1.0 all.1.1.1.1.1.1.1.0
 
-pub returns : goal.returns
+pub returns-clause-ok : goal.returns-clause-ok
 unfolding effect_of
-returns c =
-    c.bind.ensures
-    ∙ after_one (state_answers c.args.state.now) (BindImageMemory c.args._device c.args.image c.args.memory c.args.offset) (binds c.args.image c.args.memory c.args.offset) refl
+returns-clause-ok c =
+    subst (λ v. OnOk c.bind.result (state_answers c.bind.new.self ≡ v))
+    (after_one (state_answers c.args.state.now) (BindImageMemory c.args._device c.args.image c.args.memory c.args.offset) (binds c.args.image c.args.memory c.args.offset) refl) c.bind.ensures.ok

@@ -3,7 +3,7 @@ use Rattle.gfx_types.specs.declared.names.Kind.TheVariants as kind
 use Rattle.gfx_model.specs.Views.{is_live}
 use Rattle.gfx_objects.specs.Objects.{answers}
 use Rattle.gfx_commands.specs.Recordings.{buffers}
-use Rattle.gfx_tracker.proofs.EndedUsers.{users_ended, pool_ended, itself_ended, none_ended}
+use Rattle.gfx_tracker.proofs.EndedUsers.{users_ended, memory_ended, swapchain_ended, pool_ended, itself_ended, none_ended}
 use Rattle.gfx_tracker.proofs.state.end_users.Goals as goal
 
 pub returns-in-Buffer : goal.returns-in-Buffer
@@ -18,11 +18,26 @@ returns-in-Image c =
     let there = ap (λ k. is_live v k c.args.gone) (sym c.in-Image.is) ∙ c.requires.kind in
     c.invalidate_users-in-Image.ensures ∙ users_ended v (buffers c.args.recordings.now) c.requires.plain c.requires.lawful kind.Image c.args.gone there refl refl refl refl
 
+pub returns-in-Memory : goal.returns-in-Memory
+returns-in-Memory c =
+    let v = answers c.args.objects.now in
+    let there = ap (λ k. is_live v k c.args.gone) (sym c.in-Memory.is) ∙ c.requires.kind in
+    c.invalidate_each.ensures
+    ∙ memory_ended v (buffers c.args.recordings.now) c.requires.plain c.requires.lawful kind.Memory c.args.gone there refl refl refl refl refl c.resting.result.now c.resting.ensures
+
+pub returns-in-Swapchain : goal.returns-in-Swapchain
+returns-in-Swapchain c =
+    let v = answers c.args.objects.now in
+    let there = ap (λ k. is_live v k c.args.gone) (sym c.in-Swapchain.is) ∙ c.requires.kind in
+    c.invalidate_each-in-Swapchain.ensures
+    ∙ swapchain_ended v (buffers c.args.recordings.now) c.requires.plain c.requires.lawful kind.Swapchain c.args.gone there refl refl refl refl refl c.owned.result.now c.owned.ensures
+
 pub returns-in-Pool : goal.returns-in-Pool
 returns-in-Pool c =
     let v = answers c.args.objects.now in
     let there = ap (λ k. is_live v k c.args.gone) (sym c.in-Pool.is) ∙ c.requires.kind in
-    c.reset_pool.ensures ∙ pool_ended v (buffers c.args.recordings.now) c.requires.plain c.requires.lawful kind.Pool c.args.gone there refl refl refl refl refl
+    c.reset_each.ensures
+    ∙ pool_ended v (buffers c.args.recordings.now) c.requires.plain c.requires.lawful kind.Pool c.args.gone there refl refl refl refl refl c.owned-in-Pool.result.now c.owned-in-Pool.ensures
 
 pub returns-in-CommandBuffer : goal.returns-in-CommandBuffer
 returns-in-CommandBuffer c =

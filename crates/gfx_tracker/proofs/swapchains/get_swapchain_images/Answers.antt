@@ -29,7 +29,8 @@ overflow_cast-images c =
 pub images-init : goal.images-init
 images-init c =
     let room = c.in_ok-reserve.ensures.ok in
-    record { steps = c.in_ok-reserve.ensures.same; spare = omega (arith, room) }
+    let free = c.in_ok-reserve.ensures.room in
+    record { steps = c.in_ok-reserve.ensures.same; spare = omega (arith, room); owner = omega (arith, free) }
 
 pub overflow_cast-detail : goal.overflow_cast-detail
 overflow_cast-detail c =
@@ -57,6 +58,12 @@ create_owned-requires-clause-spare c =
     let below = c.images-test.true in
     omega (arith, room, below)
 
+pub create_owned-requires-clause-owner : goal.create_owned-requires-clause-owner
+create_owned-requires-clause-owner c =
+    let room = c.images.invariant.owner in
+    let below = c.images-test.true in
+    omega (arith, room, below)
+
 pub images-preserved : goal.images-preserved
 images-preserved c =
     let v = state_answers c.args.state.now in
@@ -66,6 +73,8 @@ images-preserved c =
     let is = image_is v c.args.swapchain i shape.result.format shape.result.width shape.result.height shape.result.usage shape.ensures.format shape.ensures.width shape.ensures.height shape.ensures.usage in
     let room = c.images.invariant.spare in
     let left = c.create_owned.ensures.spare in
+    let free = c.images.invariant.owner in
+    let still = c.create_owned.ensures.owner in
     record {
       steps = c.create_owned.ensures.step
           ∙ ap (λ d. after (state_answers c.images.state) (creates (get_or ids i 0) c.args.swapchain d)) is
@@ -73,6 +82,7 @@ images-preserved c =
           ∙ numbered_next (image_of v c.args.swapchain) v c.args.swapchain 0 ids i c.images-test.true
           ∙ ap (λ n. fold after v (fetch_steps v c.args.swapchain (take n ids))) (let e : suc i ≡ i + 1 = omega arith in e);
       spare = omega (arith, room, left);
+      owner = omega (arith, free, still);
     }
 
 pub returns-clause-ok : goal.returns-clause-ok

@@ -13,8 +13,8 @@ returns-in_default c =
 pub returns-then-is_once : goal.returns-then-is_once
 returns-then-is_once c =
     let at = found c.args.self.now c.args.cb (Some c.in-Some.row.now) (ap (λ m. map.get m c.args.cb) (sym c.self.view_is) ∙ sym c.in-Some.ensures) in
-    is_executed (buffers c.args.self.now) c.args.cb (buffers c.invalidate.new.self)
-    (subst (λ (b : ℕ → Buffer). buffers c.invalidate.new.self ≡ (λ x. if c.args.cb == x then invalidated true (b x) else b x)) (ap buffers c.self.view_is) c.invalidate.ensures) (ap is_once at ∙ sym c.is_once.ensures ∙ c.if-is_once.true)
+    is_executed (buffers c.args.self.now) c.args.cb (buffers c.invalidate.new.self.map)
+    (subst (λ (b : ℕ → Buffer). buffers c.invalidate.new.self.map ≡ (λ x. if c.args.cb == x then invalidated true (b x) else b x)) (ap buffers c.self.view_is) c.invalidate.ensures) (ap is_once at ∙ sym c.is_once.ensures ∙ c.if-is_once.true)
 
 pub returns-else-is_once : goal.returns-else-is_once
 returns-else-is_once c =

@@ -1,34 +1,37 @@
-use Rattle.std.proofs.Common.{◌≡◌, ◌+◌, ◌-◌, Some, None, take, ap, sym, ◌∙◌, arith}
+use Rattle.std.proofs.Common.{◌≡◌, ◌+◌, ◌-◌, Some, None, take, ap, sym, ◌∙◌, subst, arith}
 use Rattle.std.specs.Prelude.{flat_map}
 use Rattle.gfx_types.specs.declared.lists.Submit.{Submit}
 use Rattle.gfx_objects.specs.Objects.{answers}
 use Rattle.gfx_commands.specs.Recordings.{buffers}
+use Rattle.gfx_commands.specs.Differing.{AreMet}
 use Rattle.gfx_model.specs.Layouts.{layouts_by}
-use Rattle.gfx_commands.proofs.Laid.{get_at, part_of, last_part, last_submit}
+use Rattle.gfx_commands.proofs.Laid.{get_at, part_of, last_part, submits_before, last_submit, fewer_submits}
 use Rattle.gfx_commands.proofs.recordings.Recordings.layout_before.Goals as goal
 
 pub returns-in-Some : goal.returns-in-Some
 returns-in-Some c =
+    let submits = c.args.submits.now in
     let s = c.index-submits-submit.result in
-    let at = get_at c.args.submits.now c.args.submit s s c.requires.submit c.index-submits-submit.is in
-    let cbs = c.items.ensures ∙ ap (λ (s : Submit). s.cbs) (sym c.index-submits-submit.is) in
-    sym (last_part (buffers c.args.self.now) c.args.submits.now c.args.submit c.args.at c.args.image (Some c.in-Some.layout)
-    (λ layout. part_of (buffers c.args.self.now) c.args.submits.now c.args.submit s at c.items.result.now cbs c.args.at c.args.image layout ∙ c.in-Some.ensures layout)
-    (answers c.args.objects.now).layout)
+    let at = get_at submits c.args.submit s s c.requires.submit c.index-submits-submit.is in
+    let cbs = part_of submits c.args.submit s at c.items.result.now (c.items.ensures ∙ ap (λ (s : Submit). s.cbs) (sym c.index-submits-submit.is)) in
+    sym (last_part (buffers c.args.self.now) submits c.args.submit c.args.at (answers c.args.objects.now).layout c.requires.met c.items.result.now cbs c.args.image
+    (Some c.in-Some.layout) c.in-Some.ensures)
 
 pub submits-init : goal.submits-init
 submits-init c =
+    let submits = c.args.submits.now in
     let s = c.index-submits-submit.result in
-    let at = get_at c.args.submits.now c.args.submit s s c.requires.submit c.index-submits-submit.is in
-    let cbs = c.items.ensures ∙ ap (λ (s : Submit). s.cbs) (sym c.index-submits-submit.is) in
+    let at = get_at submits c.args.submit s s c.requires.submit c.index-submits-submit.is in
+    let cbs = part_of submits c.args.submit s at c.items.result.now (c.items.ensures ∙ ap (λ (s : Submit). s.cbs) (sym c.index-submits-submit.is)) in
     record {
       in_range = omega arith;
-      same = last_part (buffers c.args.self.now) c.args.submits.now c.args.submit c.args.at c.args.image None
-          (λ layout. part_of (buffers c.args.self.now) c.args.submits.now c.args.submit s at c.items.result.now cbs c.args.at c.args.image layout ∙ c.in_default.ensures layout);
+      met = submits_before (buffers c.args.self.now) submits c.args.submit c.args.at (answers c.args.objects.now).layout c.requires.met;
+      same = last_part (buffers c.args.self.now) submits c.args.submit c.args.at (answers c.args.objects.now).layout c.requires.met c.items.result.now cbs c.args.image
+          None c.in_default.ensures;
     }
 
-pub returns-in-Some-left_by : goal.returns-in-Some-left_by
-returns-in-Some-left_by c =
+pub returns-in-Some-known_by : goal.returns-in-Some-known_by
+returns-in-Some-known_by c =
     let b = buffers c.args.self.now in
     let layout = (answers c.args.objects.now).layout in
     let submits = c.args.submits.now in
@@ -39,13 +42,15 @@ returns-in-Some-left_by c =
     let at = get_at submits n s s (omega (arith, inside, fits)) c.index-submits-end.is in
     let cbs = c.items-in-submits.ensures ∙ ap (λ (s : Submit). s.cbs) (sym c.index-submits-end.is) in
     let end : c.submits.end ≡ n + 1 = omega arith in
-    sym (c.submits.invariant.same layout ∙ ap (λ k. layouts_by b layout (flat_map (λ (s : Submit). s.cbs) (take k submits)) c.args.image) end
-    ∙ last_submit b submits n c.args.image s (Some c.in-Some-left_by.layout) at
-    (λ layout. ap (λ l. layouts_by b layout l c.args.image) (sym cbs) ∙ c.in-Some-left_by.ensures layout) layout)
+    let met = subst (λ k. AreMet b layout (flat_map (λ (s : Submit). s.cbs) (take k submits))) end c.submits.invariant.met in
+    sym (c.submits.invariant.same ∙ ap (λ k. layouts_by b layout (flat_map (λ (s : Submit). s.cbs) (take k submits)) c.args.image) end
+    ∙ last_submit b submits n s at layout met c.args.image (Some c.in-Some-known_by.layout)
+    (λ layout. subst (λ l. AreMet b layout l → layouts_by b layout l c.args.image ≡ c.in-Some-known_by.layout) cbs (c.in-Some-known_by.ensures layout)))
 
 pub submits-preserved : goal.submits-preserved
 submits-preserved c =
     let b = buffers c.args.self.now in
+    let layout = (answers c.args.objects.now).layout in
     let submits = c.args.submits.now in
     let n = c.submits.end - 1 in
     let s = c.index-submits-end.result in
@@ -54,10 +59,11 @@ submits-preserved c =
     let at = get_at submits n s s (omega (arith, inside, fits)) c.index-submits-end.is in
     let cbs = c.items-in-submits.ensures ∙ ap (λ (s : Submit). s.cbs) (sym c.index-submits-end.is) in
     let end : c.submits.end ≡ n + 1 = omega arith in
+    let met = subst (λ k. AreMet b layout (flat_map (λ (s : Submit). s.cbs) (take k submits))) end c.submits.invariant.met in
     record {
       in_range = omega (arith, inside);
-      same = λ layout.
-          c.submits.invariant.same layout ∙ ap (λ k. layouts_by b layout (flat_map (λ (s : Submit). s.cbs) (take k submits)) c.args.image) end
-          ∙ last_submit b submits n c.args.image s None at
-          (λ layout. ap (λ l. layouts_by b layout l c.args.image) (sym cbs) ∙ c.in_default-left_by.ensures layout) layout;
+      met = fewer_submits b submits n s at layout met;
+      same = c.submits.invariant.same ∙ ap (λ k. layouts_by b layout (flat_map (λ (s : Submit). s.cbs) (take k submits)) c.args.image) end
+          ∙ last_submit b submits n s at layout met c.args.image None
+          (λ layout. subst (λ l. AreMet b layout l → layouts_by b layout l c.args.image ≡ layout c.args.image) cbs (c.in_default-known_by.ensures layout));
     }

@@ -1,69 +1,36 @@
-use Rattle.std.proofs.Common.{◌≡◌, None, ap, sym, ◌∙◌, arith}
+use Rattle.std.proofs.Common.{◌≡◌, refl, ap, sym, ◌∙◌, arith}
 use Rattle.std.specs.FinMap as map
 use Rattle.gfx_model.specs.Views.{commands_in, bytes_in}
 use Rattle.gfx_commands.specs.Recording.{buffer_of}
-use Rattle.gfx_commands.proofs.Counting.{commands_replaced, bytes_replaced, commands_part, bytes_part, commands_fresh, bytes_fresh}
+use Rattle.gfx_commands.proofs.Counting.{commands_counted, bytes_counted, counted_over, counted_new}
 use Rattle.gfx_commands.proofs.Buffers.{set_to}
 use Rattle.gfx_commands.proofs.rows.Rows.begin.Goals as goal
 
 pub without-self-inside-requires-clause-commands : goal.without-self-inside-requires-clause-commands
-without-self-inside-requires-clause-commands c =
-    let some = ap (λ m. map.get m c.args.cb) (sym c.reserve.ensures.map) ∙ sym c.in-Some.ensures.value in
-    let part = commands_part c.self.inside.table.map c.args.cb c.in-Some.before some in
-    let all = c.self.invariant.commands in
-    omega (arith, part, all)
+without-self-inside-requires-clause-commands c = commands_counted c.self.inside.table.map c.self.inside.totals c.self.invariant c.args.cb c.in-Some.row.now (sym c.in-Some.ensures.value)
 
 pub without-self-inside-requires-clause-bytes : goal.without-self-inside-requires-clause-bytes
-without-self-inside-requires-clause-bytes c =
-    let some = ap (λ m. map.get m c.args.cb) (sym c.reserve.ensures.map) ∙ sym c.in-Some.ensures.value in
-    let part = bytes_part c.self.inside.table.map c.args.cb c.in-Some.before some in
-    let all = c.self.invariant.bytes in
-    omega (arith, part, all)
+without-self-inside-requires-clause-bytes c = bytes_counted c.self.inside.table.map c.self.inside.totals c.self.invariant c.args.cb c.in-Some.row.now (sym c.in-Some.ensures.value)
 
-pub invariant_of-self-in-Some : goal.invariant_of-self-in-Some
-invariant_of-self-in-Some c =
-    let m = c.self.inside.table.map in
-    let row = c.new-row.result in
-    let some = ap (λ m. map.get m c.args.cb) (sym c.reserve.ensures.map) ∙ sym c.in-Some.ensures.value in
-    let is = c.in-Some.ensures.map ∙ ap (λ m. map.insert m c.args.cb row) c.reserve.ensures.map in
-    let commands = commands_replaced m c.args.cb c.in-Some.before some c.replace.new.self.map row is in
-    let bytes = bytes_replaced m c.args.cb c.in-Some.before some c.replace.new.self.map row is in
-    let no_commands : commands_in (buffer_of row) ≡ 0 = ap commands_in c.new-row.ensures in
-    let no_bytes : bytes_in (buffer_of row) ≡ 0 = ap bytes_in c.new-row.ensures in
-    let old = c.self.invariant in
+pub invariant_of-self : goal.invariant_of-self
+invariant_of-self c =
+    let no_commands : commands_in (buffer_of c.restart.new.self) ≡ 0 = ap commands_in c.restart.ensures in
+    let no_bytes : bytes_in (buffer_of c.restart.new.self) ≡ 0 = ap bytes_in c.restart.ensures in
     let a = c.without-self-inside.ensures.commands in
     let b = c.without-self-inside.ensures.bytes in
-    record {
-      commands = let o = old.commands in omega (arith, commands, no_commands, o, a);
-      bytes = let o = old.bytes in omega (arith, bytes, no_bytes, o, b);
-      few = let o = old.few in omega (arith, o, a);
-      small = let o = old.small in omega (arith, o, b);
-    }
+    let few = c.self.invariant.few in
+    let small = c.self.invariant.small in
+    counted_over c.self.inside.table.map c.self.inside.totals c.self.invariant c.args.cb c.in-Some.row.now (sym c.in-Some.ensures.value) c.restart.new.self _ _ refl
+    (omega (arith, no_commands, a)) (omega (arith, no_bytes, b)) (omega (arith, few, a)) (omega (arith, small, b))
 
 pub invariant_of-self-in-None : goal.invariant_of-self-in-None
 invariant_of-self-in-None c =
-    let m = c.self.inside.table.map in
-    let row = c.new-row.result in
-    let none : map.get m c.args.cb ≡ None = ap (λ m. map.get m c.args.cb) (sym c.reserve.ensures.map) ∙ sym c.in-None.ensures.value in
-    let is = c.in-None.ensures.map ∙ ap (λ m. map.insert m c.args.cb row) c.reserve.ensures.map in
-    let commands = commands_fresh m c.args.cb none c.replace.new.self.map row is in
-    let bytes = bytes_fresh m c.args.cb none c.replace.new.self.map row is in
-    let no_commands : commands_in (buffer_of row) ≡ 0 = ap commands_in c.new-row.ensures in
-    let no_bytes : bytes_in (buffer_of row) ≡ 0 = ap bytes_in c.new-row.ensures in
-    let old = c.self.invariant in
-    record {
-      commands = let o = old.commands in omega (arith, commands, no_commands, o);
-      bytes = let o = old.bytes in omega (arith, bytes, no_bytes, o);
-      few = old.few;
-      small = old.small;
-    }
+    counted_new c.self.inside.table.map c.self.inside.totals c.self.invariant c.args.cb (sym c.in-None.ensures.value) c.new-row.result c.set.new.self.map c.set.ensures.map
+    (ap commands_in c.new-row.ensures) (ap bytes_in c.new-row.ensures)
 
-pub returns-in-Some-clause-ok : goal.returns-in-Some-clause-ok
-returns-in-Some-clause-ok c =
-    set_to c.args.self.now c.replace.new.self.map c.args.cb c.new-row.result _
-    (c.in-Some.ensures.map ∙ ap (λ m. map.insert m c.args.cb c.new-row.result) (c.reserve.ensures.map ∙ c.self.view_is)) c.new-row.ensures
+pub returns-in-Some : goal.returns-in-Some
+returns-in-Some c = set_to c.args.self.now.map _ c.args.cb c.restart.new.self _ (ap (λ s. map.insert s.map c.args.cb c.restart.new.self) c.self.view_is) c.restart.ensures
 
-pub returns-in-None-clause-ok : goal.returns-in-None-clause-ok
-returns-in-None-clause-ok c =
-    set_to c.args.self.now c.replace.new.self.map c.args.cb c.new-row.result _
-    (c.in-None.ensures.map ∙ ap (λ m. map.insert m c.args.cb c.new-row.result) (c.reserve.ensures.map ∙ c.self.view_is)) c.new-row.ensures
+pub returns-in-None : goal.returns-in-None
+returns-in-None c =
+    set_to c.args.self.now.map c.set.new.self.map c.args.cb c.new-row.result _ (c.set.ensures.map ∙ ap (λ s. map.insert s.map c.args.cb c.new-row.result) c.self.view_is) c.new-row.ensures

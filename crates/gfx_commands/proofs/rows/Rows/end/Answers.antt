@@ -1,35 +1,39 @@
-use Rattle.std.proofs.Common.{◌≡◌, length, refl, ap, ◌∙◌, arith}
+use Rattle.std.proofs.Common.{◌≡◌, length, is_some, refl, ap, sym, ◌∙◌, arith}
+use Rattle.std.specs.FinMap as map
 use Rattle.gfx_model.specs.Questions.{State, Buffer}
 use Rattle.gfx_model.specs.Views.{commands_in, bytes_in}
+use Rattle.gfx_model.specs.Checks.{is_recording}
+use Rattle.gfx_commands.specs.declared.recording.CbState.TheVariants.{Executable}
+use Rattle.gfx_commands.specs.declared.recording.Recording.{Recording}
 use Rattle.gfx_commands.specs.Recording.{buffer_of}
 use Rattle.gfx_commands.specs.Commands.{events_in, bytes_of}
+use Rattle.gfx_commands.specs.Recordings.{buffers}
 use Rattle.gfx_commands.proofs.Buffers.{recording_kept, recording_row, changed}
+use Rattle.gfx_commands.proofs.Counting.{counted_over}
 use Rattle.gfx_commands.proofs.rows.Rows.end.Goals as goal
 
-pub take-row-requires : goal.take-row-requires
-take-row-requires c = recording_kept c.args.self.now c.args.cb c.requires
+pub unreachable-requires : goal.unreachable-requires
+unreachable-requires c =
+    let kept = recording_kept c.args.self.now.map c.args.cb c.requires in
+    let none = ap is_some (c.in_default.ensures.value ∙ ap (λ s. map.get s.map c.args.cb) c.self.view_is) in
+    absurd (grind (arith, kept, none))
 
-pub put-requires-clause-few : goal.put-requires-clause-few
-put-requires-clause-few c =
-    let row = c.take-row.result in
-    let state = recording_row c.args.self.now c.args.cb row c.take-row.ensures.value c.requires in
-    let before : commands_in (buffer_of row) ≡ length (events_in row.commands)
+pub invariant_of-self : goal.invariant_of-self
+invariant_of-self c =
+    let row = c.in-Some.row.now in
+    let some = sym c.in-Some.ensures.value in
+    let state = recording_row c.self.inside.table.map c.args.cb row some (ap (λ s. is_recording (buffers s.map c.args.cb).state) c.self.view_is ∙ c.requires) in
+    let commands : commands_in (buffer_of row) ≡ length (events_in row.commands)
     = ap (λ s. commands_in (record { state = s; flags = row.flags; commands = events_in row.commands })) state in
-    let all = c.take-row.ensures.commands in
-    let few = c.take-row.ensures.few in
-    omega (arith, before, all, few)
-
-pub put-requires-clause-small : goal.put-requires-clause-small
-put-requires-clause-small c =
-    let row = c.take-row.result in
-    let state = recording_row c.args.self.now c.args.cb row c.take-row.ensures.value c.requires in
-    let before : bytes_in (buffer_of row) ≡ bytes_of (events_in row.commands)
+    let bytes : bytes_in (buffer_of row) ≡ bytes_of (events_in row.commands)
     = ap (λ s. bytes_in (record { state = s; flags = row.flags; commands = events_in row.commands })) state in
-    let all = c.take-row.ensures.bytes in
-    let small = c.take-row.ensures.small in
-    omega (arith, before, all, small)
+    counted_over c.self.inside.table.map c.self.inside.totals c.self.invariant c.args.cb row some _ _ c.self.inside.totals refl
+    (omega (arith, commands)) (omega (arith, bytes)) c.self.invariant.few c.self.invariant.small
 
 pub returns : goal.returns
 returns c =
     let end = λ (b : Buffer). record b { state = State.executable } in
-    changed c.args.self.now c.put.new.self c.args.cb c.take-row.result c.take-row.ensures.value _ end (c.put.ensures ∙ c.take-row.ensures.others _) refl
+    let row = c.in-Some.row.now in
+    let now : Recording = record { state = Executable; flags = row.flags; commands = row.commands } in
+    changed c.args.self.now.map _ c.args.cb row (ap (λ s. map.get s.map c.args.cb) (sym c.self.view_is) ∙ sym c.in-Some.ensures.value) now end
+    (ap (λ s. map.insert s.map c.args.cb now) c.self.view_is) refl

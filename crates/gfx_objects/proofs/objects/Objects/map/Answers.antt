@@ -1,13 +1,7 @@
 use Rattle.std.proofs.Common.{sym, ap, ◌∙◌, Some, None, if◌then◌else◌}
 use Rattle.gfx_objects.proofs.Resources.{memory_live}
-use Rattle.gfx_objects.proofs.Resting.{still_rests}
 use Rattle.gfx_objects.proofs.Steps.{mapped}
 use Rattle.gfx_objects.proofs.objects.Objects.map.Goals as goal
-
-pub set_detail-requires-clause-rests : goal.set_detail-requires-clause-rests
-set_detail-requires-clause-rests c =
-    let e = c.mapped_to-detail.ensures in
-    still_rests c.args.self.now c.get.ensures.all c.args.memory c.in-Some.object (sym c.get.ensures.row ∙ sym c.in-Some.ensures) c.mapped_to-detail.result e.parameters e.bound
 
 pub returns-in-Some-clause-step : goal.returns-in-Some-clause-step
 returns-in-Some-clause-step c =

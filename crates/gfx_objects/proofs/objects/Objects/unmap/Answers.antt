@@ -1,18 +1,12 @@
 use Rattle.std.proofs.Common.{◌≡◌, Bool, true, false, Option, None, refl, sym, ◌∙◌, if◌then◌else◌}
 use Rattle.gfx_model.specs.Questions.{Range}
 use Rattle.gfx_objects.specs.Object.{is_memory, detail_of}
-use Rattle.gfx_objects.proofs.Resting.{still_rests}
 use Rattle.gfx_objects.proofs.Steps.{unmapped}
 use Rattle.gfx_objects.proofs.objects.Objects.unmap.Goals as goal
 
 no_map : (t : Bool) → ◌≡◌ {A = Option Range} (if t then None else None) None
 no_map true = refl
 no_map false = refl
-
-pub set_detail-requires-clause-rests : goal.set_detail-requires-clause-rests
-set_detail-requires-clause-rests c =
-    let e = c.mapped_to-detail.ensures in
-    still_rests c.args.self.now c.get.ensures.all c.args.memory c.in-Some.object (sym c.get.ensures.row ∙ sym c.in-Some.ensures) c.mapped_to-detail.result e.parameters e.bound
 
 pub returns-in-Some-clause-step : goal.returns-in-Some-clause-step
 returns-in-Some-clause-step c =

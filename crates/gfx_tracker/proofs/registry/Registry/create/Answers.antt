@@ -1,4 +1,4 @@
-use Rattle.std.proofs.Common.{◌≡◌, ◌≤◌, ◌+◌, ◌^◌, None, ap, sym, subst, ◌∙◌}
+use Rattle.std.proofs.Common.{◌≡◌, ◌≤◌, ◌+◌, None, ap, sym, subst, ◌∙◌}
 use Rattle.gfx_model.specs.Steps.Step.{creates}
 use Rattle.gfx_model.specs.Views.{View, live_bytes, detail_bytes}
 use Rattle.gfx_model.specs.After.{after}

@@ -1,0 +1,150 @@
+//! Rows under ids that stand one after another, each of which is changed in its place.
+ghost use Rattle.std.specs.Prelude.{◌≡◌, ℕ, ◌+◌, ◌≤◌, true, [], is_some, IsSome, OnOk, None, Some, slice_get, vec_capacity};
+ghost use Rattle.std.specs.Option.{option_copied, option_copied_mut};
+ghost use Rattle.std.specs.Borrow.{LendsIf, sem};
+ghost use Rattle.std.specs.FinMap as map;
+ghost use Rattle.gfx_table.specs.Dense.{is_listed, settled};
+
+use crate::slotted::Slotted;
+use std::alloc::{AllocError, Global};
+use std::marker::Model;
+
+/// Rows under ids, in no order. A row is changed where it stands, and all ids are at hand.
+#[derive(Drop)]
+pub struct Dense<V> {
+    ids: Vec<u64>,
+    rows: Vec<V>,
+    // where the row of each id stands
+    places: Slotted<usize>,
+}
+
+impl<V> Model for Dense<V> {
+    ghost use Rattle.std.specs.Prelude.{length, vec_capacity, ◌-◌, min};
+    ghost use Rattle.gfx_table.specs.Slots.{Slots, slots_code};
+    ghost use Rattle.gfx_table.specs.Dense.{rows_of, IsDense};
+
+    ghost Value = { Slots V };
+
+    ghost coded = { slots_code V.code };
+
+    ghost view = { λ t. record { map = rows_of t.rows.items t.places.map; spare = min (min (vec_capacity t.ids - length t.ids.items) (vec_capacity t.rows - length t.rows.items)) t.places.spare } };
+
+    ghost invariant = { λ t. IsDense t.ids.items (length t.rows.items) t.places.map };
+}
+
+impl<V: Drop> Dense<V> {
+    ghost use Rattle.gfx_table.specs.contracts.dense.Dense.{the_row};
+
+    /// No rows.
+    pub fn new(alloc: Global) -> Self
+        ensures { result.map ≡ map.empty }
+    {
+        Dense {
+            ids: Vec::new(alloc),
+            rows: Vec::new(alloc),
+            places: Slotted::new(alloc),
+        }
+    }
+
+    /// Makes room for so many new ids.
+    pub fn reserve(&mut self, more: usize) -> Result<(), AllocError>
+        ensures map { self.new.map ≡ self.old.map }
+        ensures ok { OnOk result (more ≤ self.new.spare) }
+        ensures spare { self.old.spare ≤ self.new.spare }
+    {
+        self.ids.reserve(more)?;
+        self.rows.reserve(more)?;
+        self.places.reserve(more)
+    }
+
+    /// The ids, each once.
+    pub fn ids(&self) -> &[u64]
+        ensures { (id : ℕ) → is_listed id result.now ≡ is_some (map.get self.now.map id) }
+    {
+        &self.ids
+    }
+
+    /// The row under the id.
+    pub fn get(&self, id: u64) -> Option<&V>
+        ensures { option_copied result ≡ map.get self.now.map id }
+    {
+        match self.places.get(id) {
+            Some(place) => self.rows.get(*place),
+            None => None,
+        }
+    }
+
+    /// The row under the id, to be changed.
+    pub fn get_mut(&mut self, id: u64) -> Option<&mut V>
+        ensures* writes_back { sem 𝓛 (LendsIf (the_row V.row) V.row self.entry result (λ row. record self.old { map = map.insert self.old.map id row }) self.old) }
+        ensures value { option_copied_mut result ≡ map.get self.old.map id }
+    {
+        match self.places.get(id).copied() {
+            Some(place) => Some(&mut self.rows[place]),
+            None => None,
+        }
+    }
+
+    /// Puts a row under the id. A new id takes one of the spare places.
+    pub fn set(&mut self, id: u64, row: V)
+        requires { map.get self.old.map id ≡ None → 1 ≤ self.old.spare }
+        ensures map { self.new.map ≡ map.insert self.old.map id row }
+        ensures spare { self.old.spare ≤ self.new.spare + 1 }
+        ensures kept { IsSome (map.get self.old.map id) → self.old.spare ≤ self.new.spare }
+    {
+        match self.places.get(id).copied() {
+            Some(place) => self.rows[place] = row,
+            None => {
+                let place = self.ids.len();
+                self.ids.push_reserved(id);
+                self.rows.push_reserved(row);
+                self.places.set(id, place);
+            }
+        }
+    }
+
+    /// Takes the row under the id out. The last one stands in its place then.
+    pub fn remove(&mut self, id: u64) -> Option<V>
+        ensures value { result ≡ map.get self.old.map id }
+        ensures map { self.new.map ≡ map.remove self.old.map id }
+        ensures spare { self.old.spare ≤ self.new.spare }
+    {
+        let place = self.places.remove(id)?;
+        let _id = self.ids.swap_remove(place);
+        settle(&self.ids, &mut self.places, place);
+        Some(self.rows.swap_remove(place))
+    }
+
+    /// Takes all rows out. There is room for as many.
+    pub fn clear(&mut self)
+        ensures map { self.new.map ≡ map.empty }
+        ensures spare { self.old.spare ≤ self.new.spare }
+    {
+        forget(&mut self.ids, &mut self.places);
+        self.rows.clear();
+    }
+}
+
+// Takes all ids and their places out.
+fn forget(ids: &mut Vec<u64>, places: &mut Slotted<usize>)
+    requires { (id : ℕ) → is_some (map.get places.old.map id) ≡ true → is_listed id ids.old.items ≡ true }
+    ensures ids { ids.new.items ≡ [] }
+    ensures places { places.new.map ≡ map.empty }
+    ensures capacity { vec_capacity ids.new ≡ vec_capacity ids.old }
+    ensures spare { places.old.spare ≤ places.new.spare }
+{
+    'ids: while let Some(id) = ids.pop() {
+        let _place = places.remove(id);
+    }
+}
+
+// What stands at this place among the ids, where something does, gets this place in place of the one that it has.
+fn settle(ids: &[u64], places: &mut Slotted<usize>, place: usize)
+    requires { (id : ℕ) → slice_get ids.now place ≡ Some id → IsSome (map.get places.old.map id) }
+    ensures map { places.new.map ≡ settled places.old.map (slice_get ids.now place) place }
+    ensures spare { places.old.spare ≤ places.new.spare }
+{
+    if let Some(id) = ids.get(place) {
+        places.set(*id, place);
+    }
+}
