@@ -18,7 +18,7 @@ TOP = os.path.dirname(os.path.dirname(os.path.dirname(os.path.abspath(__file__))
 sys.path.insert(0, os.path.join(TOP, "examples"))
 sys.path.insert(0, os.path.dirname(os.path.abspath(__file__)))
 from blocks import call, fill_memory, header  # noqa: E402
-from run import BUFFER, DEVICE, FIRST, MEMORY, QUEUE, R8_UINT, begin, end, ids, objects, submit  # noqa: E402
+from run import BUFFER, DEVICE, FIRST, INSTANCE, MEMORY, QUEUE, R8_UINT, begin, end, fill, ids, objects, pools_of_one, submit  # noqa: E402
 
 PLACE = "/tmp/gfxcap_hostile"
 RUNS, GROWTH, FACTOR = 3, 5, 4
@@ -219,6 +219,78 @@ def filled_pages(n):
     yield shown(FIRST) * 2
 
 
+# ---- what is live where a cut begins
+
+
+def cut_beside(blocks):
+    yield from swapchain()
+    yield from blocks
+    yield allocated(FIRST)
+    yield from recorded(FIRST, [])
+    yield shown(FIRST) * 2
+
+
+def live_pools(n):
+    """Pools with a begun buffer each."""
+    buffers = ids(n, 5 * 10**6)
+    yield from cut_beside([*pools_of_one(ids(n, 10**6), buffers), *[begin(buffer) + fill(buffer) for buffer in buffers]])
+
+
+def live_swapchains(n):
+    """Swapchains, each on a surface of its own, with their images."""
+
+    def blocks():
+        shape = dict(format=R8_UINT, width=1, height=1, usage=3)
+        for at in range(n):
+            yield call("CreateHeadlessSurfaceEXT", instance=INSTANCE, surface=10**6 + at)
+            yield call("CreateSwapchainKHR", device=DEVICE, swapchain=2 * 10**6 + at, surface=10**6 + at, images=1, **shape)
+            yield call("GetSwapchainImagesKHR", device=DEVICE, swapchain=2 * 10**6 + at, images=[3 * 10**6 + at])
+
+    yield from cut_beside(blocks())
+
+
+def live_devices(n):
+    """Devices with their queues."""
+    yield from cut_beside(
+        call("CreateDevice", instance=INSTANCE, device=10**6 + at) + call("GetDeviceQueue", device=10**6 + at, queue=2 * 10**6 + at) for at in range(n)
+    )
+
+
+def live_memories(n):
+    """Memories, each with a byte and a buffer that is bound to it."""
+
+    def blocks():
+        for at in range(n):
+            memory, buffer = 10**6 + at, 2 * 10**6 + at
+            yield call("AllocateMemory", device=DEVICE, memory=memory, size=16)
+            yield call("MapMemory", device=DEVICE, memory=memory, offset=0, size=16)
+            yield fill_memory(memory, 0, b"\x7f")
+            yield call("CreateBuffer", device=DEVICE, buffer=buffer, size=16, usage=3)
+            yield call("BindBufferMemory", device=DEVICE, buffer=buffer, memory=memory, offset=0)
+
+    yield from cut_beside(blocks())
+
+
+def live_images(n):
+    """Images that are bound to one memory, each in a layout."""
+
+    def blocks():
+        for at in range(n):
+            yield call("CreateImage", device=DEVICE, image=10**6 + at, format=R8_UINT, width=1, height=1, usage=3)
+            yield call("BindImageMemory", device=DEVICE, image=10**6 + at, memory=MEMORY, offset=0)
+
+    yield from cut_beside(blocks())
+
+
+def live_fences(n):
+    """Fences under ids that lie anywhere."""
+    draw = random.Random(7)
+    yield from cut_beside(call("CreateFence", device=DEVICE, fence=draw.randrange(10**9, 2**64), flags=at % 2) for at in range(n))
+
+
+LIVE = [(live_pools, 2000), (live_swapchains, 2000), (live_devices, 2000), (live_memories, 2000), (live_images, 4000), (live_fences, 10000)]
+
+
 def capture(make):
     def made(n):
         return header() + b"".join(make(n))
@@ -240,6 +312,7 @@ INPUTS = [
     ("unlist", listing_of_one_word, 2**24, 11),
     ("unlist", listing_of_commas, 2**22, 11),
     *[(word, capture(many_frames), 10000, 0) for word in ("list", "upgrade", "digests", "trim 2-3", "lean 2-3")],
+    *[(word, capture(make), n, 0) for make, n in LIVE for word in ("trim 2-2", "lean 2-2")],
     *[
         ("lean 2-2", capture(make), n, 0)
         for make, n in (
