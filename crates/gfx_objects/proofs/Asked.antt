@@ -1,6 +1,6 @@
 -- What the rows and the tables beside them answer.
 use Rattle.std.proofs.Common.{◌≡◌, ℕ, ◌≤◌, ◌==◌, ◌&&◌, Bool, true, false, List, [], ◌∷◌, length, nat_lt, Option, Some, None, is_some, if◌then◌else◌, refl, ap, sym, ◌∙◌, arith}
-use Rattle.std.specs.Prelude.{sum_by, count_by, option_map, option_and_then, find, filter, map as each}
+use Rattle.std.specs.Prelude.{sum_by, count_by, option_map, option_and_then, map as each}
 use Rattle.std.specs.Option.{option_map_or}
 use Rattle.std.specs.List.{list_any}
 use Rattle.std.specs.Ordering.{nat_cmp}
@@ -9,17 +9,15 @@ use Rattle.std.specs.FinMap.{FinMap, len-entries, entries}
 use Rattle.std.proofs.lemmas.List.Sums.{count_by-le-length}
 use Rattle.std.proofs.lemmas.Bool.Decides.{nat_tests}
 use Rattle.std.proofs.lemmas.Grind.{common_steps}
-use Rattle.gfx_types.specs.declared.names.Kind.{Kind}
-use Rattle.gfx_table.specs.Slots.{least_above}
-use Rattle.gfx_table.specs.Rows.{ids, total, total-by_ids, ids-with_rows}
-use Rattle.gfx_model.specs.Steps.{Detail as Parameters, kind_of, kind_number}
+use Rattle.gfx_table.specs.Rows.{ids, total, total-by_ids}
+use Rattle.gfx_model.specs.Steps.{Detail as Parameters}
 use Rattle.gfx_model.specs.Steps.Detail.{an_instance, a_surface, a_device, a_queue, a_memory, a_buffer, an_image, a_pool, a_command_buffer, a_fence, a_semaphore, a_swapchain}
 use Rattle.gfx_model.specs.Questions.{Binding, is_owned, passes, rests_on}
-use Rattle.gfx_model.specs.Views.{children, object_count, live_bytes, is_live, is_on, has_swapchain, detail_bytes}
+use Rattle.gfx_model.specs.Views.{children, object_count, live_bytes, is_on, has_swapchain, detail_bytes}
 use Rattle.gfx_objects.specs.declared.object.Object.{Object}
 use Rattle.gfx_objects.specs.Children.{is_at}
 use Rattle.gfx_objects.specs.Object.{made, detail_of, bound_of, is_owned_by, owner_of, memory_of, surface_of}
-use Rattle.gfx_objects.specs.Objects.{Kept, answers, next_of, IsSound, mark, of_kind, owner_mark, children_in, count_in, bytes_in}
+use Rattle.gfx_objects.specs.Objects.{Kept, answers, owner_mark, children_in, count_in, bytes_in}
 
 weight_of : (o : Option Object) → option_map_or (λ o. detail_bytes (detail_of o.detail)) o 0 ≡ option_map_or (λ o. detail_bytes o.detail) (option_map made o) 0
 weight_of None = refl
@@ -53,35 +51,6 @@ children_few k p =
     let is = children_answered k p in
     let all = count_answered k in
     omega (arith, few, is, all)
-
--- ---- the next id of a kind
-
-find-filter : (p q : ℕ → Bool) (xs : List ℕ) → find p (filter q xs) ≡ find (λ x. p x && q x) xs
-find-filter p q [] = refl
-find-filter p q (x ∷ xs) = let rest = find-filter p q xs in cases (p x) (q x) refl refl rest
-  where
-    cases : (a b : Bool) → p x ≡ a → q x ≡ b → find p (filter q xs) ≡ find (λ x. p x && q x) xs → find p (filter q (x ∷ xs)) ≡ find (λ x. p x && q x) (x ∷ xs)
-    cases a b pa qb rest = grind (arith, pa, qb, rest)
-
-pub kind_answered : (k : Kept) → IsSound k → (kind : Kind) (x : ℕ)
-    → is_some (option_and_then (mark kind x) (map.get k.rows x)) ≡ is_live (answers k) kind x
-unfolding answers
-kind_answered k sound kind x = cases (map.get k.rows x) refl
-  where
-    cases : (o : Option Object) → map.get k.rows x ≡ o
-        → is_some (option_and_then (mark kind x) o)
-        ≡ option_map_or (λ o. kind_number (kind_of o.detail) == kind_number kind) (option_map made o) false
-    cases None none = refl
-    cases (Some o) some =
-        let same = ap kind_number ((sound.row x o some).same_kind) in
-        grind (arith, nat_tests, same)
-
-pub next_answered : (k : Kept) → IsSound k → (kind : Kind) (after : ℕ) → least_above (of_kind kind k.rows) after ≡ next_of (answers k) kind after
-unfolding answers
-next_answered k sound kind after =
-    ap (find (λ x. nat_lt after x)) (ids-with_rows (mark kind) k.rows
-    ∙ ap (λ f. filter f (ids k.rows)) (λ i x. (kind_answered k sound kind x) i))
-    ∙ find-filter (λ x. nat_lt after x) (is_live (answers k) kind) (ids k.rows)
 
 -- ---- groups
 

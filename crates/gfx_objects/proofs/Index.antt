@@ -1,21 +1,14 @@
--- What changes of the rows make of the ids by kind, the counts of children and the bytes.
-use Rattle.std.proofs.Common.{◌≡◌, ℕ, ◌+◌, ◌≤◌, ◌==◌, Bool, true, false, Some, None, is_some, List, [], ◌∷◌, length, if◌then◌else◌, refl, ap, sym, ◌∙◌, arith}
-use Rattle.std.specs.Prelude.{option_and_then, sum_by}
+-- What changes of the rows make of the counts of children and the bytes.
+use Rattle.std.proofs.Common.{◌≡◌, ℕ, ◌+◌, ◌≤◌, ◌==◌, Some, None, is_some, List, [], ◌∷◌, length, if◌then◌else◌, refl, ap, sym, ◌∙◌, arith}
+use Rattle.std.specs.Prelude.{sum_by}
 use Rattle.std.specs.Option.{option_map_or}
 use Rattle.std.specs.Ordering.{nat_cmp}
 use Rattle.std.specs.FinMap as map
-use Rattle.std.specs.FinMap.{FinMap, find, entries, get-entries, get-empty, len-empty, len-insert, len-remove, len-entries}
+use Rattle.std.specs.FinMap.{FinMap, find, entries, get-entries, len-empty, len-insert, len-remove, len-entries}
 use Rattle.std.specs.Cmp.{nat_cmp_total}
 use Rattle.std.proofs.lemmas.Bool.Decides.{nat_tests}
-use Rattle.gfx_types.specs.declared.names.Kind.{Kind}
-use Rattle.gfx_table.specs.Values.{get-with_rows}
 use Rattle.gfx_table.specs.Rows.{total, weight, total-insert, total-remove, same_rows, got-insert, got-remove}
-use Rattle.gfx_model.specs.Steps.{kind_number}
 use Rattle.gfx_objects.specs.declared.object.Object.{Object}
-use Rattle.gfx_objects.specs.Objects.{mark, of_kind}
-
-marked : (kind : Kind) (m : FinMap nat_cmp Object) (q : ℕ) → map.get (of_kind kind m) q ≡ option_and_then (mark kind q) (map.get m q)
-marked kind m q = get-with_rows (mark kind) m q
 
 pub at_insert : {X : Type 0} (m : FinMap nat_cmp X) (id : ℕ) (o : X) (q : ℕ) → map.get (map.insert m id o) q ≡ (if id == q then Some o else map.get m q)
 at_insert m id o q = ap (λ f. f q) (got-insert m id o)
@@ -33,22 +26,6 @@ module _ (rows : FinMap nat_cmp Object) (id : ℕ) (o : Object) where
   -- ---- a new row
 
   module _ (none : map.get rows id ≡ None) where
-    pub kind_created : (kind : Kind) → (if kind_number o.kind == kind_number kind then map.insert (of_kind kind rows) id tt else of_kind kind rows) ≡ of_kind kind (map.insert rows id o)
-    kind_created kind = same_rows _ _ (λ q. cases q (kind_number o.kind == kind_number kind) refl)
-      where
-        cases : (q : ℕ) (t : Bool) → (kind_number o.kind == kind_number kind) ≡ t
-            → map.get (if t then map.insert (of_kind kind rows) id tt else of_kind kind rows) q ≡ map.get (of_kind kind (map.insert rows id o)) q
-        cases q true e =
-            let l = at_insert (of_kind kind rows) id tt q in
-            let old = marked kind rows q in
-            let r = marked kind (map.insert rows id o) q ∙ ap (option_and_then (mark kind q)) (at_insert rows id o q) in
-            grind (arith, nat_tests, l, old, r, e)
-        cases q false e =
-            let old = marked kind rows q in
-            let r = marked kind (map.insert rows id o) q ∙ ap (option_and_then (mark kind q)) (at_insert rows id o q) in
-            let here : id ≡ q → map.get rows q ≡ None = λ p. rw (sym p) none in
-            grind (arith, nat_tests, old, r, e, here)
-
     pub total_created : (weigh : ℕ → Object → ℕ) → total weigh (map.insert rows id o) ≡ total weigh rows + weigh id o
     total_created weigh = let a = total-insert weigh rows id o in let b = no_weight weigh rows id none in omega (arith, a, b)
 
@@ -58,22 +35,6 @@ module _ (rows : FinMap nat_cmp Object) (id : ℕ) (o : Object) where
   -- ---- a row that goes
 
   module _ (some : map.get rows id ≡ Some o) where
-    pub kind_removed : (kind : Kind) → (if kind_number o.kind == kind_number kind then map.remove (of_kind kind rows) id else of_kind kind rows) ≡ of_kind kind (map.remove rows id)
-    kind_removed kind = same_rows _ _ (λ q. cases q (kind_number o.kind == kind_number kind) refl)
-      where
-        cases : (q : ℕ) (t : Bool) → (kind_number o.kind == kind_number kind) ≡ t
-            → map.get (if t then map.remove (of_kind kind rows) id else of_kind kind rows) q ≡ map.get (of_kind kind (map.remove rows id)) q
-        cases q true e =
-            let l = at_remove (of_kind kind rows) id q in
-            let old = marked kind rows q in
-            let r = marked kind (map.remove rows id) q ∙ ap (option_and_then (mark kind q)) (at_remove rows id q) in
-            grind (arith, nat_tests, l, old, r, e)
-        cases q false e =
-            let old = marked kind rows q in
-            let r = marked kind (map.remove rows id) q ∙ ap (option_and_then (mark kind q)) (at_remove rows id q) in
-            let here : id ≡ q → map.get rows q ≡ Some o = λ p. rw (sym p) some in
-            grind (arith, nat_tests, old, r, e, here)
-
     pub total_removed : (weigh : ℕ → Object → ℕ) → total weigh (map.remove rows id) + weigh id o ≡ total weigh rows
     total_removed weigh = let a = total-remove weigh rows id in let b = its_weight weigh rows id o some in omega (arith, a, b)
 
@@ -92,14 +53,6 @@ module _ (rows : FinMap nat_cmp Object) (id : ℕ) (o : Object) where
     -- ---- a row that is changed
 
     module _ (changed : Object) where
-      pub kind_changed : changed.kind ≡ o.kind → (kind : Kind) → of_kind kind rows ≡ of_kind kind (map.insert rows id changed)
-      kind_changed same kind = same_rows _ _ (λ q.
-          let number = ap kind_number same in
-          let old = marked kind rows q in
-          let r = marked kind (map.insert rows id changed) q ∙ ap (option_and_then (mark kind q)) (at_insert rows id changed q) in
-          let here : id ≡ q → map.get rows q ≡ Some o = λ p. rw (sym p) some in
-          grind (arith, nat_tests, number, old, r, here))
-
       pub total_changed : (weigh : ℕ → Object → ℕ) → weigh id changed ≡ weigh id o → total weigh (map.insert rows id changed) ≡ total weigh rows
       total_changed weigh same = let a = total-insert weigh rows id changed in let b = its_weight weigh rows id o some in omega (arith, a, b, same)
 
@@ -107,9 +60,6 @@ module _ (rows : FinMap nat_cmp Object) (id : ℕ) (o : Object) where
       len_changed = let a = len-insert nat_cmp_total rows id changed in let b = ap is_some some in grind (arith, a, b)
 
 -- ---- no rows
-
-pub kind_empty : (kind : Kind) → map.empty ≡ of_kind kind map.empty
-kind_empty kind = same_rows _ _ (λ q. get-empty nat_cmp q ∙ sym (marked kind map.empty q ∙ ap (option_and_then (mark kind q)) (get-empty nat_cmp q)))
 
 pub total_empty : (weigh : ℕ → Object → ℕ) → total weigh map.empty ≡ 0
 total_empty weigh =

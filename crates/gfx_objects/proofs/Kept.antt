@@ -5,17 +5,15 @@ use Rattle.std.specs.FinMap as map
 use Rattle.std.specs.FinMap.{FinMap}
 use Rattle.std.proofs.lemmas.Bool.Decides.{nat_tests}
 use Rattle.std.proofs.lemmas.Option.{same_Some}
-use Rattle.gfx_types.specs.declared.names.Kind.{Kind}
 use Rattle.gfx_table.specs.Used.{holds}
-use Rattle.gfx_model.specs.Steps.{kind_number}
 use Rattle.gfx_model.specs.Steps.{Detail}
 use Rattle.gfx_model.specs.Questions.{Binding}
 use Rattle.gfx_model.specs.Views.{detail_size, detail_bytes}
 use Rattle.gfx_model.specs.Limits.{max_live_bytes, max_live_objects}
 use Rattle.gfx_objects.specs.declared.object.Object.{Object}
 use Rattle.gfx_objects.specs.Object.{detail_of, bound_of}
-use Rattle.gfx_objects.specs.Objects.{Kept, IsRow, RestsIn, IsSound, IsIndexed, of_kind, children_in, bytes_in}
-use Rattle.gfx_objects.proofs.Index.{kind_created, total_created, len_created, kind_removed, total_removed, len_removed, kind_changed, total_changed, len_changed, at_insert, at_remove}
+use Rattle.gfx_objects.specs.Objects.{Kept, IsRow, RestsIn, IsSound, IsIndexed, children_in, bytes_in}
+use Rattle.gfx_objects.proofs.Index.{total_created, len_created, total_removed, len_removed, total_changed, len_changed, at_insert, at_remove}
 
 -- a row that isn't used isn't live
 pub unused_fresh : (k : Kept) → IsSound k → (id : ℕ) → holds k.used id ≡ false → map.get k.rows id ≡ None
@@ -41,10 +39,9 @@ sound_same k n rows used sound = record {
   small = let a = ap bytes_in rows in let b = sound.small in omega (arith, a, b);
 }
 
-pub indexed_same : (m n : FinMap nat_cmp Object) (kinds kinds' : Kind → FinMap nat_cmp (Unit {0})) (children children' : ℕ → ℕ) (bytes count : ℕ)
-    → n ≡ m → ((kind : Kind) → kinds' kind ≡ kinds kind) → children' ≡ children → IsIndexed m kinds children bytes count → IsIndexed n kinds' children' bytes count
-indexed_same m n kinds kinds' children children' bytes count rows by_kind by_parent old = record {
-  by_kind = λ kind. by_kind kind ∙ old.by_kind kind ∙ ap (of_kind kind) (sym rows);
+pub indexed_same : (m n : FinMap nat_cmp Object) (children children' : ℕ → ℕ) (bytes count : ℕ)
+    → n ≡ m → children' ≡ children → IsIndexed m children bytes count → IsIndexed n children' bytes count
+indexed_same m n children children' bytes count rows by_parent old = record {
   by_parent = λ parent. ap (λ f. f parent) by_parent ∙ old.by_parent parent ∙ ap (λ m. children_in m parent) (sym rows);
   in_all = old.in_all ∙ ap bytes_in (sym rows);
   in_number = old.in_number ∙ ap map.len (sym rows);
@@ -140,15 +137,11 @@ module _ (k n : Kept) (id : ℕ) (o : Object) (rows : n.rows ≡ map.insert k.ro
           let here : id ≡ other → holds k.used other ≡ true = λ p. rw (sym p) was in
           grind (arith, nat_tests, u, here)
 
-module _ (m n : FinMap nat_cmp Object) (kinds kinds' : Kind → FinMap nat_cmp (Unit {0})) (children children' : ℕ → ℕ) (bytes bytes' count count' : ℕ) (id : ℕ) (o : Object) where
+module _ (m n : FinMap nat_cmp Object) (children children' : ℕ → ℕ) (bytes bytes' count count' : ℕ) (id : ℕ) (o : Object) where
   pub indexed_created : n ≡ map.insert m id o → map.get m id ≡ None
-      → ((kind : Kind) → kinds' kind ≡ (if kind_number o.kind == kind_number kind then map.insert (kinds kind) id tt else kinds kind))
       → children' ≡ (λ q. if o.parent == q then children q + 1 else children q) → bytes' ≡ bytes + detail_bytes (detail_of o.detail) → count' ≡ count + 1
-      → IsIndexed m kinds children bytes count → IsIndexed n kinds' children' bytes' count'
-  indexed_created rows none by_kind by_parent in_all in_number old = record {
-    by_kind = λ kind.
-        by_kind kind ∙ ap (λ t. if kind_number o.kind == kind_number kind then map.insert t id tt else t) (old.by_kind kind)
-        ∙ kind_created m id o none kind ∙ ap (of_kind kind) (sym rows);
+      → IsIndexed m children bytes count → IsIndexed n children' bytes' count'
+  indexed_created rows none by_parent in_all in_number old = record {
     by_parent = λ parent.
         let now = ap (λ f. f parent) by_parent in
         let before = old.by_parent parent in
@@ -168,13 +161,9 @@ module _ (m n : FinMap nat_cmp Object) (kinds kinds' : Kind → FinMap nat_cmp (
   }
 
   pub indexed_removed : n ≡ map.remove m id → map.get m id ≡ Some o
-      → ((kind : Kind) → kinds' kind ≡ (if kind_number o.kind == kind_number kind then map.remove (kinds kind) id else kinds kind))
       → children' ≡ (λ q. if o.parent == q then children q - 1 else children q) → bytes' ≡ bytes - detail_bytes (detail_of o.detail) → count' ≡ count - 1
-      → IsIndexed m kinds children bytes count → IsIndexed n kinds' children' bytes' count'
-  indexed_removed rows some by_kind by_parent in_all in_number old = record {
-    by_kind = λ kind.
-        by_kind kind ∙ ap (λ t. if kind_number o.kind == kind_number kind then map.remove t id else t) (old.by_kind kind)
-        ∙ kind_removed m id o some kind ∙ ap (of_kind kind) (sym rows);
+      → IsIndexed m children bytes count → IsIndexed n children' bytes' count'
+  indexed_removed rows some by_parent in_all in_number old = record {
     by_parent = λ parent.
         let now = ap (λ f. f parent) by_parent in
         let before = old.by_parent parent in
@@ -193,11 +182,10 @@ module _ (m n : FinMap nat_cmp Object) (kinds kinds' : Kind → FinMap nat_cmp (
         omega (arith, in_number, before, is, less);
   }
 
-pub indexed_changed : (m n : FinMap nat_cmp Object) (kinds : Kind → FinMap nat_cmp (Unit {0})) (children : ℕ → ℕ) (bytes count id : ℕ) (o changed : Object)
-    → n ≡ map.insert m id changed → map.get m id ≡ Some o → changed.kind ≡ o.kind → changed.parent ≡ o.parent
-    → detail_bytes (detail_of changed.detail) ≡ detail_bytes (detail_of o.detail) → IsIndexed m kinds children bytes count → IsIndexed n kinds children bytes count
-indexed_changed m n kinds children bytes count id o changed rows some kind parent same old = record {
-  by_kind = λ kind'. old.by_kind kind' ∙ kind_changed m id o some changed kind kind' ∙ ap (of_kind kind') (sym rows);
+pub indexed_changed : (m n : FinMap nat_cmp Object) (children : ℕ → ℕ) (bytes count id : ℕ) (o changed : Object)
+    → n ≡ map.insert m id changed → map.get m id ≡ Some o → changed.parent ≡ o.parent
+    → detail_bytes (detail_of changed.detail) ≡ detail_bytes (detail_of o.detail) → IsIndexed m children bytes count → IsIndexed n children bytes count
+indexed_changed m n children bytes count id o changed rows some parent same old = record {
   by_parent = λ p.
       old.by_parent p ∙ sym (total_changed m id o some changed (λ id o. if o.parent == p then 1 else 0) (ap (λ q. if q == p then 1 else 0) parent))
       ∙ ap (λ m. children_in m p) (sym rows);

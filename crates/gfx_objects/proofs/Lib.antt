@@ -1,5 +1,4 @@
 pub mod Counts
-pub mod Places
 pub mod Asked
 pub mod Index
 pub mod Steps

@@ -1,42 +1,19 @@
--- The next id of a kind is above the given one, and what the owner of queues, command buffers and fetched images takes with it.
-use Rattle.std.proofs.Common.{◌≡◌, ℕ, zero, suc, ◌<◌, ◌==◌, ◌&&◌, Bool, true, false, not, List, [], ◌∷◌, nat_lt, slice_get, length, ◌-◌, Option, Some, None, if◌then◌else◌, refl, ap, sym, ◌∙◌, arith}
-use Rattle.std.specs.Prelude.{option_map, option_and_then, find}
+-- What the owner of queues, command buffers and fetched images takes with it.
+use Rattle.std.proofs.Common.{◌≡◌, ℕ, zero, suc, ◌==◌, ◌&&◌, true, false, not, List, [], ◌∷◌, slice_get, length, ◌-◌, Option, Some, None, if◌then◌else◌, refl, ap, sym, ◌∙◌, arith}
+use Rattle.std.specs.Prelude.{option_map, option_and_then}
 use Rattle.std.specs.Ordering.{nat_cmp}
 use Rattle.std.specs.FinMap as map
 use Rattle.std.specs.FinMap.{FinMap}
 use Rattle.std.proofs.lemmas.Bool.Decides.{nat_tests}
 use Rattle.std.proofs.lemmas.Option.{same_Some}
-use Rattle.gfx_types.specs.declared.names.Kind.{Kind}
 use Rattle.gfx_table.specs.Dense.{is_listed}
 use Rattle.gfx_table.specs.Values.{kept_rows, get-with_rows}
 use Rattle.gfx_table.specs.Rows.{same_rows}
 use Rattle.gfx_model.specs.Questions.{is_owned, goes_with, passes}
-use Rattle.gfx_model.specs.Views.{is_live}
 use Rattle.gfx_objects.specs.declared.object.Object.{Object}
 use Rattle.gfx_objects.specs.Object.{made, is_owned_by}
-use Rattle.gfx_objects.specs.Objects.{Kept, answers, next_of}
+use Rattle.gfx_objects.specs.Objects.{Kept, answers}
 use Rattle.gfx_objects.proofs.Index.{at_remove}
-
--- ---- the next id
-
-find_passes : (p : ℕ → Bool) (xs : List ℕ) (id : ℕ) → find p xs ≡ Some id → p id ≡ true
-find_passes p [] id is = cc
-find_passes p (x ∷ xs) id is =
-    let rest = find_passes p xs id in
-    let same : x ≡ id → p x ≡ p id = ap p in
-    grind (arith, is, rest, same)
-
-module _ (k : Kept) (kind : Kind) (after : ℕ) where
-  is_next : ℕ → Bool
-  is_next x = nat_lt after x && is_live (answers k) kind x
-
-  next_passes : (id : ℕ) → next_of (answers k) kind after ≡ Some id → is_next id ≡ true
-  unfolding answers is_next
-  next_passes id is = find_passes is_next (answers k).ids id is
-
-  pub next_above : (id : ℕ) → next_of (answers k) kind after ≡ Some id → after < id
-  unfolding is_next
-  next_above id is = let p = next_passes id is in grind (arith, nat_tests, p)
 
 -- ---- the ids that an object owns
 

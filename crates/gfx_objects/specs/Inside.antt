@@ -1,10 +1,8 @@
 -- What the tables of all objects are seen as, and how they belong together.
 use Rattle.std.specs.Prelude.{◌≤◌}
-use Rattle.gfx_types.specs.declared.names.Kind.{Kind}
 use Rattle.gfx_table.specs.Groups.{is_member}
 use Rattle.gfx_objects.specs.declared.objects.Objects.TheInside.{Inside}
 use Rattle.gfx_objects.specs.Objects.{Kept, IsSound, IsIndexed, IsGrouped}
-use Rattle.gfx_objects.specs.Kinds.{ids_of, room_of}
 use Rattle.gfx_objects.specs.Children.{count_of}
 
 -- the rows, the used ids, the sets of what is owned, and the reserved room
@@ -15,13 +13,12 @@ kept_of s = record { rows = s.rows.map; used = s.used; owned = s.owned.sets.map;
 pub record HasRoom (s : Inside) : Type 0 where
   pub rows : s.room ≤ s.rows.spare
   pub used : s.room ≤ s.used.spare
-  pub kinds : (kind : Kind) → s.room ≤ room_of s.kinds.tables kind
   pub children : s.room ≤ s.children.counts.spare
   pub swapchains : s.room ≤ s.swapchains.counts.spare
 
 -- the rows are sound, the tables beside them fit them, and there is the room that was reserved
 pub record IsKept (s : Inside) : Type 0 where
   pub sound : IsSound (kept_of s)
-  pub indexed : IsIndexed s.rows.map (ids_of s.kinds.tables) (count_of s.children.counts.map) s.bytes s.count
+  pub indexed : IsIndexed s.rows.map (count_of s.children.counts.map) s.bytes s.count
   pub grouped : IsGrouped s.rows.map (is_member s.owned.sets.map) (is_member s.resting.sets.map) (count_of s.swapchains.counts.map)
   pub has_room : HasRoom s

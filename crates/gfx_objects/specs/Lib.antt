@@ -1,5 +1,4 @@
 pub mod Object
-pub mod Kinds
 pub mod Children
 pub mod Objects
 pub mod Inside

@@ -1,19 +1,18 @@
 -- What is kept of all objects, and what it answers to the questions of a capture.
-use Rattle.std.specs.Prelude.{◌≡◌, ℕ, ◌+◌, ◌<◌, ◌≤◌, ◌==◌, nat_lt, ◌&&◌, Bool, true, false, find, Option, Some, None, is_some, option_map, option_and_then, if◌then◌else◌, refl}
+use Rattle.std.specs.Prelude.{◌≡◌, ℕ, ◌+◌, ◌<◌, ◌≤◌, ◌==◌, Bool, true, false, Option, Some, None, is_some, option_map, option_and_then, if◌then◌else◌, refl}
 use Rattle.std.specs.Option.{option_map_or}
 use Rattle.std.specs.Ordering.{nat_cmp}
 use Rattle.std.specs.Coded.{Coded, code_by, coded×, coded_ℕ}
 use base.Stored.{coded_unit}
 use Rattle.std.specs.FinMap as map
 use Rattle.std.specs.FinMap.{FinMap}
-use Rattle.gfx_types.specs.declared.names.Kind.{Kind}
 use Rattle.gfx_table.specs.Slots.{Slots, slots_code}
 use Rattle.gfx_table.specs.Used.{holds}
 use Rattle.gfx_table.specs.Values.{with_rows}
 use Rattle.gfx_table.specs.Rows.{total}
-use Rattle.gfx_model.specs.Steps.{Detail, kind_of, kind_number}
+use Rattle.gfx_model.specs.Steps.{Detail, kind_of}
 use Rattle.gfx_model.specs.Questions.{Binding, new_buffer}
-use Rattle.gfx_model.specs.Views.{View, is_live, detail_size, detail_bytes}
+use Rattle.gfx_model.specs.Views.{View, detail_size, detail_bytes}
 use Rattle.gfx_model.specs.Limits.{max_live_bytes, max_live_objects}
 use Rattle.gfx_objects.specs.declared.object.Object.{Object}
 use Rattle.gfx_objects.specs.Object.{made, detail_of, bound_of, mapped_of, layout_of, is_within, is_owned_by, owner_of, memory_of, surface_of}
@@ -54,10 +53,6 @@ answers k = record {
   section = None;
 }
 
--- the least live id of a kind above the given one
-abbrev pub next_of : View → Kind → ℕ → Option ℕ
-next_of v kind after = find (λ x. nat_lt after x && is_live v kind x) v.ids
-
 -- a row and its id
 pub record IsRow (id : ℕ) (o : Object) : Type 0 where
   pub same_id : o.id ≡ id
@@ -79,14 +74,6 @@ pub record IsSound (k : Kept) : Type 0 where
   pub few : map.len k.rows ≤ max_live_objects
   pub small : total (λ id o. detail_bytes (detail_of o.detail)) k.rows ≤ max_live_bytes
 
--- the mark of a row that is of a kind
-abbrev pub mark : Kind → ℕ → Object → Option (Unit {0})
-mark kind id o = if kind_number o.kind == kind_number kind then Some tt else None
-
--- the ids of the rows of a kind
-abbrev pub of_kind : Kind → FinMap nat_cmp Object → FinMap nat_cmp (Unit {0})
-of_kind kind = with_rows (mark kind)
-
 -- the mark of a row that an object owns
 abbrev pub owner_mark : ℕ → ℕ → Object → Option (Unit {0})
 owner_mark owner id o = if is_owned_by owner o then Some tt else None
@@ -103,9 +90,8 @@ children_in rows parent = total (λ id o. if o.parent == parent then 1 else 0) r
 abbrev pub bytes_in : FinMap nat_cmp Object → ℕ
 bytes_in rows = total (λ id o. detail_bytes (detail_of o.detail)) rows
 
--- the ids by kind, the counts of children, the bytes and the number are those of the rows
-pub record IsIndexed (rows : FinMap nat_cmp Object) (kinds : Kind → FinMap nat_cmp (Unit {0})) (children : ℕ → ℕ) (bytes count : ℕ) : Type 0 where
-  pub by_kind : (kind : Kind) → kinds kind ≡ of_kind kind rows
+-- the counts of children, the bytes and the number are those of the rows
+pub record IsIndexed (rows : FinMap nat_cmp Object) (children : ℕ → ℕ) (bytes count : ℕ) : Type 0 where
   pub by_parent : (parent : ℕ) → children parent ≡ children_in rows parent
   pub in_all : bytes ≡ bytes_in rows
   pub in_number : count ≡ map.len rows

@@ -150,16 +150,6 @@ impl Detail {
         matches!(self, Detail::Queue)
     }
 
-    /// Whether it is a swapchain on this surface.
-    pub fn is_on(&self, surface: u64) -> bool
-        ensures { result ≡ view.is_on surface (detail_of self.now) }
-    {
-        match self {
-            Detail::Swapchain { surface: its, .. } => *its == surface,
-            _ => false,
-        }
-    }
-
     /// Whether it is the image of a swapchain at this index.
     pub fn has_index(&self, wanted: u32) -> bool
         ensures { result ≡ view.has_index wanted (detail_of self.now) }

@@ -1,5 +1,5 @@
 //! The live objects, and all ids that were ever used.
-ghost use Rattle.std.specs.Prelude.{◌≡◌, ℕ, ◌+◌, ◌-◌, ◌<◌, ◌≤◌, ◌^◌, ◌==◌, ◌&&◌, ◌||◌, [], true, false, Some, None, IsTrue, IsSome, IfSome, OnOk, OnErr, option_map, if◌then◌else◌};
+ghost use Rattle.std.specs.Prelude.{◌≡◌, ℕ, ◌+◌, ◌-◌, ◌<◌, ◌≤◌, ◌^◌, ◌==◌, ◌&&◌, ◌||◌, [], true, false, Some, None, IsTrue, IsSome, IfSome, IfOk, OnOk, OnErr, option_map, if◌then◌else◌};
 ghost use Rattle.std.specs.Option.{option_copied};
 ghost use Rattle.std.specs.FinMap as map;
 ghost use Rattle.gfx_types.specs.declared.names.Kind.TheVariants as kind;
@@ -10,20 +10,20 @@ ghost use Rattle.gfx_model.specs.Views as view;
 ghost use Rattle.gfx_model.specs.After.{after};
 ghost use Rattle.gfx_model.specs.Limits.{max_live_bytes, max_live_objects};
 ghost use Rattle.gfx_table.specs.Used.{holds};
-ghost use Rattle.gfx_table.specs.Dense.{is_listed};
+ghost use Rattle.gfx_table.specs.Dense.{is_listed, StandApart};
 ghost use Rattle.gfx_table.specs.Slots.{least_above};
 ghost use Rattle.gfx_table.specs.Groups.{room_in};
 ghost use Rattle.gfx_objects.specs.Object.{made, detail_of, bound_of, memory_of, IsNew, is_within};
-ghost use Rattle.gfx_objects.specs.Objects.{answers, next_of, of_owner, IsRow, RestsIn, IsSound, bytes_in};
+ghost use Rattle.gfx_objects.specs.Objects.{answers, of_owner, IsRow, RestsIn, IsSound, bytes_in};
 
 use crate::children::ChildCounts;
-use crate::kinds::{KindIds, number_of};
+use crate::kinds::number_of;
 use crate::least::least_of;
 use crate::object::{Binding, Detail, Object};
 use crate::tables::{move_to, put_in, reserve_each, take_from};
 use gfx_table::{Groups, Slotted, UsedIds};
 use gfx_types::{Kind, MapRange, WantMemory};
-use std::alloc::Global;
+use std::alloc::{AllocError, Global};
 use std::marker::Model;
 
 // So many creations are made room for at once.
@@ -34,7 +34,6 @@ const AHEAD: u32 = 64;
 pub struct Objects {
     rows: Slotted<Object>,
     used: UsedIds,
-    kinds: KindIds,
     children: ChildCounts,
     // the live swapchains on each surface
     swapchains: ChildCounts,
@@ -73,7 +72,6 @@ impl Objects {
         Objects {
             rows: Slotted::new(alloc),
             used: UsedIds::new(alloc),
-            kinds: KindIds::new(alloc),
             children: ChildCounts::new(alloc),
             swapchains: ChildCounts::new(alloc),
             owned: Groups::new(alloc),
@@ -128,14 +126,16 @@ impl Objects {
 
     /// What the object owns: the queue of a device, the command buffers of a pool, the fetched images of a swapchain.
     pub fn owned(&self, id: u64) -> &[u64]
-        ensures { (x : ℕ) → is_listed x result.now ≡ asked.passes (λ o. asked.is_owned o.detail && id == o.parent) ((answers self.now).live x) }
+        ensures all { (x : ℕ) → is_listed x result.now ≡ asked.passes (λ o. asked.is_owned o.detail && id == o.parent) ((answers self.now).live x) }
+        ensures once { StandApart result.now }
     {
         self.owned.members(id)
     }
 
     /// The live buffers and images that are bound to the memory.
     pub fn resting(&self, memory: u64) -> &[u64]
-        ensures { (x : ℕ) → is_listed x result.now ≡ asked.rests_on memory ((answers self.now).bound x) }
+        ensures all { (x : ℕ) → is_listed x result.now ≡ asked.rests_on memory ((answers self.now).bound x) }
+        ensures once { StandApart result.now }
     {
         self.resting.members(memory)
     }
@@ -154,12 +154,11 @@ impl Objects {
         self.bytes
     }
 
-    /// The least live id of this kind above the given one.
-    pub fn next(&self, kind: Kind, after: u64) -> Option<u64>
-        ensures least { result ≡ next_of (answers self.now) kind after }
-        ensures sound { IsSound self.now }
+    /// The ids of all live objects, rising.
+    pub fn ids(&self, alloc: Global) -> Result<Vec<u64>, AllocError>
+        ensures { IfOk result (λ ids. ids.items ≡ (answers self.now).ids) }
     {
-        self.kinds.next(kind, after)
+        self.rows.ids(alloc)
     }
 
     /// The least id above the given one among what the object owns.
@@ -190,7 +189,6 @@ impl Objects {
         let Ok(()) = reserve_each(
             &mut self.rows,
             &mut self.used,
-            &mut self.kinds,
             &mut self.children,
             &mut self.swapchains,
             room as usize,
@@ -310,7 +308,6 @@ impl Objects {
         let surface = object.detail.surface();
         self.bytes += object.detail.bytes();
         self.count += 1;
-        self.kinds.insert(object.kind, object.id);
         self.children.add(object.parent);
         put_in(&mut self.owned, owner, object.id);
         self.swapchains.add_to(surface);
@@ -367,7 +364,6 @@ impl Objects {
             let owner = object.owner();
             let surface = object.detail.surface();
             let memory = object.detail.memory();
-            self.kinds.remove(object.kind, id);
             self.children.remove(object.parent);
             take_from(&mut self.owned, owner, id);
             self.swapchains.remove_from(surface);

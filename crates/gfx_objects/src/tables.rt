@@ -1,13 +1,10 @@
 //! What is done to some of the tables, whatever the others say.
 ghost use Rattle.std.specs.Prelude.{◌≡◌, ℕ, ◌+◌, ◌≤◌, ◌==◌, ◌&&◌, ◌||◌, false, Some, OnOk, if◌then◌else◌};
-ghost use Rattle.gfx_types.specs.declared.names.Kind.{Kind};
 ghost use Rattle.gfx_table.specs.Groups.{is_member, room_in};
 ghost use Rattle.gfx_table.specs.Used.{holds};
 ghost use Rattle.gfx_objects.specs.Children.{is_at, count_of};
-ghost use Rattle.gfx_objects.specs.Kinds.{ids_of, room_of};
 
 use crate::children::ChildCounts;
-use crate::kinds::KindIds;
 use crate::object::Object;
 use gfx_table::{Groups, Slotted, UsedIds};
 use std::alloc::AllocError;
@@ -16,32 +13,27 @@ use std::alloc::AllocError;
 pub(crate) fn reserve_each(
     rows: &mut Slotted<Object>,
     used: &mut UsedIds,
-    kinds: &mut KindIds,
     children: &mut ChildCounts,
     swapchains: &mut ChildCounts,
     more: usize,
 ) -> Result<(), AllocError>
     ensures rows { rows.new.map ≡ rows.old.map }
     ensures used { holds used.new ≡ holds used.old }
-    ensures kinds { (kind : Kind) → ids_of kinds.new.tables kind ≡ ids_of kinds.old.tables kind }
     ensures children { count_of children.new.counts.map ≡ count_of children.old.counts.map }
     ensures swapchains { count_of swapchains.new.counts.map ≡ count_of swapchains.old.counts.map }
 
     ensures rows_room { rows.old.spare ≤ rows.new.spare }
     ensures used_room { used.old.spare ≤ used.new.spare }
-    ensures kinds_room { (kind : Kind) → room_of kinds.old.tables kind ≤ room_of kinds.new.tables kind }
     ensures children_room { children.old.counts.spare ≤ children.new.counts.spare }
     ensures swapchains_room { swapchains.old.counts.spare ≤ swapchains.new.counts.spare }
 
     ensures rows_made { OnOk result (more ≤ rows.new.spare) }
     ensures used_made { OnOk result (more ≤ used.new.spare) }
-    ensures kinds_made { OnOk result ((kind : Kind) → more ≤ room_of kinds.new.tables kind) }
     ensures children_made { OnOk result (more ≤ children.new.counts.spare) }
     ensures swapchains_made { OnOk result (more ≤ swapchains.new.counts.spare) }
 {
     rows.reserve(more)?;
     used.reserve(more)?;
-    kinds.reserve(more)?;
     children.reserve(more)?;
     swapchains.reserve(more)
 }

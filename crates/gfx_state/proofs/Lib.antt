@@ -8,4 +8,3 @@ pub mod Anew
 pub mod Kept
 pub mod Standing
 pub mod Versions
-pub mod Placeless

@@ -1,26 +1,26 @@
--- Live ids of a kind, one after the other, and those that have one parent.
-use Rattle.std.proofs.Common.{◌≡◌, ◌≢◌, ℕ, zero, suc, ◌+◌, ◌-◌, ◌<◌, ◌≤◌, ◌==◌, Bool, true, false, ◌&&◌, List, [], ◌∷◌, ◌++◌, length, Option, Some, None, cond, refl, ap, sym, ◌∙◌, length-append, append_assoc, arith}
-use Rattle.std.specs.Prelude.{option_and_then, filter, flat_map}
+-- Live ids that one object owns, and fetched images by their indices.
+use Rattle.std.proofs.Common.{◌≡◌, ℕ, zero, suc, ◌+◌, ◌-◌, ◌<◌, ◌≤◌, ◌==◌, Bool, true, false, ◌&&◌, List, [], ◌∷◌, ◌++◌, length, Option, Some, None, is_some, cond, if◌then◌else◌, refl, ap, sym, ◌∙◌, length-append, arith}
+use Rattle.std.specs.Prelude.{option_map, filter, flat_map}
 use Rattle.std.specs.List.{range_with_len}
+use Rattle.std.specs.List.Sorted.{IsSorted, IsPermutation}
+use Rattle.std.specs.Ordering.{nat_cmp}
 use Rattle.std.specs.FinMap as map
-use Rattle.std.proofs.lemmas.List.{append-nil}
-use Rattle.std.proofs.lemmas.List.Sums.{length-filter as counted}
 use Rattle.std.proofs.lemmas.Bool.Decides.{nat_tests}
 use Rattle.gfx_types.specs.declared.names.Kind.{Kind}
 use Rattle.gfx_types.specs.declared.names.Kind.TheVariants as kind
-use Rattle.gfx_table.specs.Values.{get-with_rows}
-use Rattle.gfx_table.specs.Rows.{ids, ids_above, ids-with_rows, above-zero, above-step, above-end}
+use Rattle.gfx_table.specs.Dense.{is_listed, StandApart}
+use Rattle.gfx_table.proofs.Sorting.{times, times_filter, listed_times, sorted_filter}
 use Rattle.std.specs.Option.{option_map_or}
-use Rattle.gfx_model.specs.Questions.{passes}
+use Rattle.gfx_model.specs.Questions.{passes, is_owned}
 use Rattle.gfx_model.specs.Steps.{Object as Made, Detail, kind_of, kind_number}
-use Rattle.gfx_model.specs.Steps.Detail.{an_image}
-use Rattle.gfx_model.specs.Views.{View, is_live, is_one, has_index, parent_of, children, images_in, fetched}
-use Rattle.gfx_model.specs.Section.{live_ids}
+use Rattle.gfx_model.specs.Steps.Detail.{an_image, a_command_buffer}
+use Rattle.gfx_model.specs.Views.{View, is_live, is_one, has_index, parent_of, images_in, fetched}
 use Rattle.gfx_section_law.proofs.Picks.{length-filter}
 use Rattle.gfx_objects.specs.declared.object.Object.{Object}
-use Rattle.gfx_objects.specs.Objects.{Kept, answers, next_of, IsSound, mark, of_kind}
-use Rattle.gfx_objects.proofs.Asked.{kind_answered, next_answered, count_answered}
-use Rattle.gfx_state.specs.Ids.{children_in}
+use Rattle.gfx_objects.specs.Object.{made}
+use Rattle.gfx_objects.specs.Objects.{Kept, answers, IsSound}
+use Rattle.gfx_objects.proofs.Asked.{count_answered}
+use Rattle.gfx_state.specs.Ids.{owned_in, children_in}
 
 -- ---- lists
 
@@ -31,114 +31,68 @@ module _ {X : Type 0} (p : X → Bool) where
   pub filter_out : (x : X) (xs : List X) → p x ≡ false → filter p (x ∷ xs) ≡ filter p xs
   filter_out x xs is = ap (λ t. cond t (x ∷ filter p xs) (filter p xs)) is
 
--- three tests in turn are one
-filter_three : (p q r s : ℕ → Bool) → ((x : ℕ) → p x && (q x && r x) ≡ s x) → (xs : List ℕ) → filter p (filter q (filter r xs)) ≡ filter s xs
-filter_three p q r s same [] = refl
-filter_three p q r s same (x ∷ xs) = by (p x) (q x) (r x) refl refl refl (same x) (filter_three p q r s same xs)
+-- two tests in turn are one
+filter_two : (p q s : ℕ → Bool) → ((x : ℕ) → p x && q x ≡ s x) → (xs : List ℕ) → filter p (filter q xs) ≡ filter s xs
+filter_two p q s same [] = refl
+filter_two p q s same (x ∷ xs) = by (p x) (q x) refl refl (same x) (filter_two p q s same xs)
   where
-    by : (a b c : Bool) → p x ≡ a → q x ≡ b → r x ≡ c → p x && (q x && r x) ≡ s x → filter p (filter q (filter r xs)) ≡ filter s xs
-        → filter p (filter q (filter r (x ∷ xs))) ≡ filter s (x ∷ xs)
-    by a b c pa qb rc is rest = grind (arith, pa, qb, rc, is, rest)
+    by : (a b : Bool) → p x ≡ a → q x ≡ b → p x && q x ≡ s x → filter p (filter q xs) ≡ filter s xs
+        → filter p (filter q (x ∷ xs)) ≡ filter s (x ∷ xs)
+    by a b pa qb is rest = grind (arith, pa, qb, is, rest)
 
--- ---- the ids of a kind
+filter_same : (p q : ℕ → Bool) → ((x : ℕ) → p x ≡ q x) → (xs : List ℕ) → filter p xs ≡ filter q xs
+filter_same p q same xs = ap (λ f. filter f xs) (λ i x. (same x) i)
 
-module _ (k : Kept) (kind : Kind) where
-  -- those above an id
-  abbrev pub live_above : ℕ → List ℕ
-  live_above after = ids_above after (of_kind kind k.rows)
+-- ---- the ids that an object owns
 
-  no_zero : IsSound k → map.get (of_kind kind k.rows) 0 ≡ None
-  no_zero sound = get-with_rows (mark kind) k.rows 0 ∙ by (map.get k.rows 0) refl
-    where
-      by : (o : Option Object) → map.get k.rows 0 ≡ o → option_and_then (mark kind 0) o ≡ None
-      by None none = refl
-      by (Some o) some = let above = (sound.row 0 o some).not_zero in absurd (omega (arith, above))
+-- the object of the id is of the kind, and the owner owns it
+abbrev is_of : View → Kind → ℕ → ℕ → Bool
+is_of v kind owner x = is_live v kind x && is_one v (λ o. is_owned o.detail && owner == o.parent) x
 
-  pub all_above : IsSound k → live_above 0 ≡ live_ids (answers k) kind
-  unfolding answers
-  all_above sound =
-      above-zero (of_kind kind k.rows) (no_zero sound) ∙ ids-with_rows (mark kind) k.rows ∙ ap (λ f. filter f (ids k.rows)) (λ i x. (kind_answered k sound kind x) i)
+pub owned_listed : (k : Kept) (kind : Kind) (owner : ℕ) (owned xs ys : List ℕ) → StandApart owned
+    → ((x : ℕ) → is_listed x owned ≡ passes (λ o. is_owned o.detail && owner == o.parent) ((answers k).live x))
+    → xs ≡ filter (is_live (answers k) kind) owned → IsPermutation xs ys → IsSorted nat_cmp ys → ys ≡ owned_in (answers k) kind owner
+unfolding answers
+owned_listed k kind owner owned xs ys apart listed is moved sorted = sorted_filter k.rows (is_of (answers k) kind owner) xs ys moved sorted each
+  where
+    there : (o : Option Object) → passes (λ o. is_owned o.detail && owner == o.parent) (option_map made o) ≡ true → is_some o ≡ true
+    there None is = cc
+    there (Some o) is = refl
 
-  pub above_next : (after id : ℕ) → IsSound k → next_of (answers k) kind after ≡ Some id → live_above after ≡ id ∷ live_above id
-  above_next after id sound next = above-step (of_kind kind k.rows) after id (next_answered k sound kind after ∙ next)
+    each : (x : ℕ) → times x xs ≡ (if is_of (answers k) kind owner x && is_some (map.get k.rows x) then 1 else 0)
+    each x =
+        let a = ap (times x) is ∙ times_filter (is_live (answers k) kind) x owned in
+        let b = listed_times owned apart x in
+        let c = listed x in
+        let d = there (map.get k.rows x) in
+        grind (arith, a, b, c, d)
 
-  pub above_none : (after : ℕ) → IsSound k → next_of (answers k) kind after ≡ None → live_above after ≡ []
-  above_none after sound none = above-end (of_kind kind k.rows) after (next_answered k sound kind after ∙ none)
-
--- ---- those of one parent
-
--- the id above is one of them, or it is passed over
-pub children_next : (k : Kept) (kind : Kind) (parent after id : ℕ) (all so_far now : List ℕ) → IsSound k → next_of (answers k) kind after ≡ Some id
-    → all ≡ so_far ++ filter (λ x. parent_of (answers k) x == parent) (live_above k kind after)
-    → parent_of (answers k) id ≡ parent → now ≡ so_far ++ id ∷ []
-    → all ≡ now ++ filter (λ x. parent_of (answers k) x == parent) (live_above k kind id)
-children_next k kind parent after id all so_far now sound next is own grown =
-    let p : ℕ → Bool = λ x. parent_of (answers k) x == parent in
-    let passes : p id ≡ true = grind (arith, nat_tests, own) in
-    is ∙ ap (λ l. so_far ++ filter p l) (above_next k kind after id sound next) ∙ ap (λ l. so_far ++ l) (filter_in p id (live_above k kind id) passes)
-    ∙ sym (append_assoc so_far (id ∷ []) (filter p (live_above k kind id))) ∙ ap (λ l. l ++ filter p (live_above k kind id)) (sym grown)
-
-pub children_past : (k : Kept) (kind : Kind) (parent after id : ℕ) (all so_far : List ℕ) → IsSound k → next_of (answers k) kind after ≡ Some id
-    → all ≡ so_far ++ filter (λ x. parent_of (answers k) x == parent) (live_above k kind after)
-    → parent_of (answers k) id ≢ parent
-    → all ≡ so_far ++ filter (λ x. parent_of (answers k) x == parent) (live_above k kind id)
-children_past k kind parent after id all so_far sound next is other =
-    let p : ℕ → Bool = λ x. parent_of (answers k) x == parent in
-    let misses : p id ≡ false = grind (arith, nat_tests, other) in
-    is ∙ ap (λ l. so_far ++ filter p l) (above_next k kind after id sound next) ∙ ap (λ l. so_far ++ l) (filter_out p id (live_above k kind id) misses)
-
-pub children_done : (k : Kept) (kind : Kind) (parent after : ℕ) (so_far : List ℕ) → IsSound k → next_of (answers k) kind after ≡ None
-    → filter (λ x. parent_of (answers k) x == parent) (live_above k kind 0) ≡ so_far ++ filter (λ x. parent_of (answers k) x == parent) (live_above k kind after)
-    → so_far ≡ children_in (answers k) kind parent
-children_done k kind parent after so_far sound none is =
-    let p : ℕ → Bool = λ x. parent_of (answers k) x == parent in
-    sym (append-nil so_far) ∙ ap (λ l. so_far ++ filter p l) (sym (above_none k kind after sound none)) ∙ sym is ∙ ap (filter p) (all_above k kind sound)
-
-pub children_few : (k : Kept) → IsSound k → (kind : Kind) (parent : ℕ) → length (children_in (answers k) kind parent) ≤ 65536
-children_few k sound kind parent =
-    let a = length-filter (λ x. parent_of (answers k) x == parent) (live_ids (answers k) kind) in
-    let b = length-filter (is_live (answers k) kind) (answers k).ids in
-    let c = count_answered k in
+pub owned_few : (k : Kept) → IsSound k → (kind : Kind) (owner : ℕ) → length (owned_in (answers k) kind owner) ≤ 65536
+owned_few k sound kind owner =
+    let a = length-filter (is_of (answers k) kind owner) (answers k).ids in
+    let b = count_answered k in
     let few = sound.few in
-    omega (arith, a, b, c, few)
+    omega (arith, a, b, few)
 
-shorter : (p q r : ℕ → Bool) → ((x : ℕ) → p x && q x ≡ true → r x ≡ true) → (xs : List ℕ) → length (filter p (filter q xs)) ≤ length (filter r xs)
-shorter p q r implies [] = omega arith
-shorter p q r implies (x ∷ xs) = by (p x) (q x) (r x) refl refl refl (implies x) (shorter p q r implies xs)
+a_buffer_alone : (d : Detail) (p q : Bool) → p ≡ q → (kind_number (kind_of d) == 9) && (is_owned d && p) ≡ q && (kind_number (kind_of d) == 9)
+a_buffer_alone a_command_buffer p q same = same ∙ sym (by q)
   where
-    by : (a b c : Bool) → p x ≡ a → q x ≡ b → r x ≡ c → (p x && q x ≡ true → r x ≡ true) → length (filter p (filter q xs)) ≤ length (filter r xs)
-        → length (filter p (filter q (x ∷ xs))) ≤ length (filter r (x ∷ xs))
-    by a b c pa qb rc is rest = grind (arith, pa, qb, rc, is, rest)
+    by : (q : Bool) → q && true ≡ q
+    by true = refl
+    by false = refl
+a_buffer_alone _ p true same = refl
+a_buffer_alone _ p false same = refl
 
--- no more of a kind than of all kinds
-children_part : (v : View) (k : Kind) (parent : ℕ) → length (children_in v k parent) ≤ children v parent
-children_part v k parent =
-    let all = counted (is_one v (λ o. o.parent == parent)) v.ids in
-    let part = shorter (λ x. parent_of v x == parent) (is_live v k) (is_one v (λ o. o.parent == parent)) implies v.ids in
-    omega (arith, all, part)
+-- a pool owns the command buffers that it is the parent of
+pub buffers_owned : (v : View) (pool : ℕ) → owned_in v kind.CommandBuffer pool ≡ children_in v kind.CommandBuffer pool
+buffers_owned v pool =
+    filter_same (is_of v kind.CommandBuffer pool) (λ x. (parent_of v x == pool) && is_live v kind.CommandBuffer x) (λ x. by (v.live x)) v.ids
+    ∙ sym (filter_two (λ x. parent_of v x == pool) (is_live v kind.CommandBuffer) (λ x. (parent_of v x == pool) && is_live v kind.CommandBuffer x) (λ x. refl) v.ids)
   where
-    by : (o : Option Made) → (option_map_or (λ (o : Made). o.parent) o 0 == parent) && passes (λ o. kind_number (kind_of o.detail) == kind_number k) o ≡ true → passes (λ o. o.parent == parent) o ≡ true
-    by None is = grind (arith, is)
-    by (Some o) is = grind (arith, is)
-
-    implies : (x : ℕ) → (parent_of v x == parent) && is_live v k x ≡ true → is_one v (λ o. o.parent == parent) x ≡ true
-    implies x is = by (v.live x) is
-
-nothing_more : (xs ys : List ℕ) → length (xs ++ ys) ≤ length xs → ys ≡ []
-nothing_more xs [] few = refl
-nothing_more xs (y ∷ ys) few = let both = length-append xs (y ∷ ys) in absurd (omega (arith, few, both))
-
--- all were found
-pub children_found : (k : Kept) (kind : Kind) (parent after : ℕ) (so_far : List ℕ) → IsSound k
-    → filter (λ x. parent_of (answers k) x == parent) (live_above k kind 0) ≡ so_far ++ filter (λ x. parent_of (answers k) x == parent) (live_above k kind after)
-    → length so_far ≡ children (answers k) parent → so_far ≡ children_in (answers k) kind parent
-children_found k kind parent after so_far sound is found =
-    let p : ℕ → Bool = λ x. parent_of (answers k) x == parent in
-    let rest = filter p (live_above k kind after) in
-    let whole : so_far ++ rest ≡ children_in (answers k) kind parent = sym is ∙ ap (filter p) (all_above k kind sound) in
-    let long = ap (λ (l : List ℕ). length l) whole in
-    let part = children_part (answers k) kind parent in
-    sym (append-nil so_far) ∙ ap (λ l. so_far ++ l) (sym (nothing_more so_far rest (omega (arith, long, part, found)))) ∙ whole
+    by : (o : Option Made) → passes (λ o. kind_number (kind_of o.detail) == 9) o && passes (λ o. is_owned o.detail && pool == o.parent) o
+        ≡ (option_map_or (λ (o : Made). o.parent) o 0 == pool) && passes (λ o. kind_number (kind_of o.detail) == 9) o
+    by None = grind arith
+    by (Some o) = a_buffer_alone o.detail (pool == o.parent) (o.parent == pool) (grind (arith, nat_tests))
 
 -- ---- fetched images
 
@@ -146,35 +100,32 @@ children_found k kind parent after so_far sound is found =
 abbrev pub is_at : View → ℕ → ℕ → Bool
 is_at v index = is_one v (λ o. has_index index o.detail)
 
-an_image_alone : (d : Detail) (index : ℕ) (q : Bool) → has_index index d && (q && (kind_number (kind_of d) == 7)) ≡ q && has_index index d
-an_image_alone (an_image f w h u (Some i)) index q = swap (i == index) q
+an_image_alone : (d : Detail) (index : ℕ) (p q : Bool) → p ≡ q → has_index index d && ((kind_number (kind_of d) == 7) && (is_owned d && p)) ≡ q && has_index index d
+an_image_alone (an_image f w h u (Some i)) index p q same = swap (i == index) q same
   where
-    swap : (a q : Bool) → a && (q && true) ≡ q && a
-    swap true true = refl
-    swap true false = refl
-    swap false true = refl
-    swap false false = refl
-an_image_alone _ index true = refl
-an_image_alone _ index false = refl
+    swap : (a q : Bool) → p ≡ q → a && p ≡ q && a
+    swap true true is = is
+    swap true false is = is
+    swap false true _ = refl
+    swap false false _ = refl
+an_image_alone _ index p true same = refl
+an_image_alone _ index p false same = refl
 
-children_at : (v : View) (swapchain index : ℕ) → filter (is_at v index) (children_in v kind.Image swapchain) ≡ filter (is_one v (λ o. o.parent == swapchain && has_index index o.detail)) v.ids
-children_at v swapchain index =
-    filter_three (is_at v index) (λ x. parent_of v x == swapchain) (is_live v kind.Image) (is_one v (λ o. o.parent == swapchain && has_index index o.detail)) each v.ids
+owned_at : (v : View) (swapchain index : ℕ) → filter (is_at v index) (owned_in v kind.Image swapchain) ≡ filter (is_one v (λ o. o.parent == swapchain && has_index index o.detail)) v.ids
+owned_at v swapchain index =
+    filter_two (is_at v index) (is_of v kind.Image swapchain) (is_one v (λ o. o.parent == swapchain && has_index index o.detail)) (λ x. by (v.live x)) v.ids
   where
-    by : (o : Option Made) → passes (λ o. has_index index o.detail) o && ((option_map_or (λ (o : Made). o.parent) o 0 == swapchain) && passes (λ o. kind_number (kind_of o.detail) == 7) o)
+    by : (o : Option Made) → passes (λ o. has_index index o.detail) o && (passes (λ o. kind_number (kind_of o.detail) == 7) o && passes (λ o. is_owned o.detail && swapchain == o.parent) o)
         ≡ passes (λ o. o.parent == swapchain && has_index index o.detail) o
     by None = refl
-    by (Some o) = an_image_alone o.detail index (o.parent == swapchain)
-
-    each : (x : ℕ) → is_at v index x && ((parent_of v x == swapchain) && is_live v kind.Image x) ≡ is_one v (λ o. o.parent == swapchain && has_index index o.detail) x
-    each x = by (v.live x)
+    by (Some o) = an_image_alone o.detail index (swapchain == o.parent) (o.parent == swapchain) (grind (arith, nat_tests))
 
 -- the images at each of the indices
 abbrev pub images_at : View → List ℕ → (from count : ℕ) → List ℕ
 images_at v xs from count = flat_map (λ index. filter (is_at v index) xs) (range_with_len from count)
 
-pub fetched_is : (v : View) (swapchain : ℕ) → images_at v (children_in v kind.Image swapchain) 0 (images_in v swapchain) ≡ fetched v swapchain
-fetched_is v swapchain = ap (λ f. flat_map f (range_with_len 0 (images_in v swapchain))) (λ i index. (children_at v swapchain index) i)
+pub fetched_is : (v : View) (swapchain : ℕ) → images_at v (owned_in v kind.Image swapchain) 0 (images_in v swapchain) ≡ fetched v swapchain
+fetched_is v swapchain = ap (λ f. flat_map f (range_with_len 0 (images_in v swapchain))) (λ i index. (owned_at v swapchain index) i)
 
 -- the images at an index, and at those behind it
 pub images_step : (v : View) (xs : List ℕ) (n index : ℕ) → index < n → images_at v xs index (n - index) ≡ filter (is_at v index) xs ++ images_at v xs (index + 1) (n - (index + 1))

@@ -1,20 +1,16 @@
 -- A section by the parts of a tracker, and for a history that the tracker stands for.
-use Rattle.std.proofs.Common.{◌≡◌, ℕ, zero, suc, ◌==◌, ◌≤◌, Bool, true, false, List, Option, None, [], length, ap, sym, subst, ◌∙◌, arith, Some, ◌∷◌, refl}
-use Rattle.std.specs.Prelude.{◌^◌, option_map}
-use Rattle.std.specs.List.{AllByRecursion}
+use Rattle.std.proofs.Common.{◌≡◌, ℕ, zero, suc, ◌==◌, ◌≤◌, Bool, true, false, List, Option, None, [], length, ap, sym, subst, ◌∙◌, arith}
+use Rattle.std.specs.Prelude.{◌^◌}
 use Rattle.std.proofs.Math.Logic.{∥∥₁_elim}
 use Rattle.std.proofs.Props.{props}
 use Rattle.std.proofs.lemmas.Bool.Decides.{nat_tests}
 use Rattle.gfx_types.specs.declared.op.Place.{Place}
 use Rattle.gfx_types.specs.declared.names.Kind.TheVariants as kind
 use Rattle.gfx_model.specs.Events.{Event}
-use Rattle.gfx_types.specs.declared.op.Place.TheVariants as place
-use Rattle.gfx_model.specs.Bytes.{bytes_at}
-use Rattle.gfx_model.specs.Steps.Detail.{a_memory, a_swapchain}
-use Rattle.gfx_model.specs.Steps.{Change, Detail, Object, kind_of, kind_number}
+use Rattle.gfx_model.specs.Steps.{Change, Object, kind_of, kind_number}
 use Rattle.gfx_model.specs.Spelling.{payload}
-use Rattle.gfx_model.specs.Questions.{image_size, Binding, Range, Buffer, passes}
-use Rattle.gfx_model.specs.Views.{View, is_live, fetched}
+use Rattle.gfx_model.specs.Questions.{Binding, Range, Buffer, passes}
+use Rattle.gfx_model.specs.Views.{View, is_live}
 use Rattle.gfx_model.specs.History.{view, executed}
 use Rattle.gfx_model.specs.Stands.{Stands}
 use Rattle.gfx_model.specs.Section.{section, known}
@@ -27,8 +23,7 @@ use Rattle.gfx_tracker.specs.State.{state_answers}
 use Rattle.gfx_tracker.specs.Tracker.{answers}
 use Rattle.gfx_state.specs.Pools.{CommandsFit}
 use Rattle.gfx_state.specs.Sections.{everything, kept_by}
-use Rattle.gfx_state.specs.Images.{IsPicture}
-use Rattle.gfx_state.specs.Stored.{HasPlacesOf, HasPlaces, IsStoredOf, IsStored}
+use Rattle.gfx_state.specs.Stored.{HasPlaces, IsStored}
 use Rattle.gfx_state.proofs.Kept.{NameTheirs, section_kept, all_kept}
 
 -- ---- what a section reads of answers
@@ -85,28 +80,6 @@ module _ (bytes : Place → Option (List ℕ)) (v w : View) (live : v.live ≡ w
   pub stored_along : (es : List Change) → IsStored v bytes es → IsStored w bytes es
   stored_along es stored =
       subst (λ xs. IsStored (record w { live = w.live; ids = xs }) bytes es) ids (subst (λ l. IsStored (record w { live = l; ids = v.ids }) bytes es) live stored)
-
--- ---- places that hold what changes leave
-
--- places that are there and hold what the changes leave are stored
-pub stored_by : (v : View) (bytes : Place → Option (List ℕ)) (es : List Change) → HasPlaces v bytes
-    → ((at : Place) (all : List ℕ) → bytes at ≡ Some all → all ≡ bytes_at es at 0 (length all)) → IsStored v bytes es
-stored_by v bytes es places left x o live = by o.detail (places x o live)
-  where
-    one : (at : Place) (size : ℕ) (b : Option (List ℕ)) → bytes at ≡ b → option_map length b ≡ Some size → b ≡ Some (bytes_at es at 0 size)
-    one at size None is long = absurd (cc)
-    one at size (Some all) is long =
-        let same : length all ≡ size = cc in
-        ap (λ l. Some l) (left at all is ∙ ap (bytes_at es at 0) same)
-
-    each : (size : ℕ) (ys : List ℕ) → AllByRecursion (IsPicture bytes size) ys → AllByRecursion (λ y. bytes (place.Image y) ≡ Some (bytes_at es (place.Image y) 0 size)) ys
-    each size [] all = tt
-    each size (y ∷ ys) all = (one (place.Image y) size (bytes (place.Image y)) refl all.0, each size ys all.1)
-
-    by : (d : Detail) → HasPlacesOf v bytes x d → IsStoredOf v bytes es x d
-    by (a_memory size) there = one (place.Memory x) size (bytes (place.Memory x)) refl there
-    by (a_swapchain surface images format width height usage) there = each (image_size format width height) (fetched v x) there
-    by _ there = tt
 
 -- ---- a history
 

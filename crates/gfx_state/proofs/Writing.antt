@@ -1,14 +1,14 @@
 -- What is written one after the other.
-use Rattle.std.proofs.Common.{◌≡◌, ℕ, zero, suc, ◌<◌, get_or, map, drop-cons, ◌+◌, ◌≤◌, List, [], ◌∷◌, ◌++◌, length, take, flat_map, Result, Ok, Err, refl, ap, sym, subst, ◌∙◌, append_assoc, drop, arith}
+use Rattle.std.proofs.Common.{◌≡◌, ℕ, zero, suc, Bool, true, false, cond, ◌<◌, get_or, map, drop-cons, ◌+◌, ◌≤◌, List, [], ◌∷◌, ◌++◌, length, flat_map, Result, Ok, Err, refl, ap, sym, subst, ◌∙◌, append_assoc, drop, arith}
 use Rattle.std.proofs.lemmas.List.{append-nil}
 use Rattle.std.proofs.lemmas.Result.{err_from_is_err_and}
-use Rattle.std.specs.Prelude.{Some, None, IsErrAnd}
+use Rattle.std.specs.Prelude.{Some, None, IsErrAnd, filter}
 use Rattle.std.specs.declared.option.Option.{Option}
 use Rattle.std.specs.Io.KnownBytes.{Appends}
 use Rattle.std.proofs.KnownBytes.{Appends-trans}
 use Rattle.gfx_io.specs.Causes.{Rose}
 use Rattle.gfx_io.specs.Pieces.{AppendsPart}
-use Rattle.gfx_io.proofs.Appending.{part_of, part_then}
+use Rattle.gfx_io.proofs.Appending.{part_of, part_then, nothing_written}
 use Rattle.gfx_model.specs.Events.{Event}
 use Rattle.gfx_model.specs.Spelling.{encoding}
 use Rattle.gfx_state.specs.declared.fault.StateFault.{StateFault}
@@ -83,6 +83,18 @@ wrote_out {o = o} {n = n} {a = a} {b = b} {xs = xs} ys r w out =
     let p = err_from_is_err_and r out in
     subst (Wrote o n a b (xs ++ ys)) (sym (p.1 ∙ ap (λ f. Err f) p.2)) (wrote_part ys w)
 
+-- nothing was written for want of memory
+pub wrote_less : {o : Option (List ℕ)} {b : ℕ} (es : List Event) (r : Result (Unit {0}) StateFault) → IsErrAnd r (λ f. f ≡ WantMemory) → Wrote o o b b es r
+wrote_less {o = o} {b = b} es r out =
+    let p = err_from_is_err_and r out in
+    let w : Wrote o o b b es (Err WantMemory) = record {
+      whole = tt;
+      front = nothing_written o (blocks_of es);
+      later = omega arith;
+      cause = λ e. absurd (cc);
+    } in
+    subst (Wrote o o b b es) (sym (p.1 ∙ ap (λ f. Err f) p.2)) w
+
 -- ---- one block
 
 pub block_whole : (o n : Option (List ℕ)) (a b : ℕ) (e : Event) (piece : List ℕ) → piece ≡ encoding 1 0 e → Appends o n piece → a ≤ b → Wrote o n a b (e ∷ []) (Ok tt)
@@ -105,20 +117,6 @@ block_part o n a b e piece r is took later rose out =
     } in
     subst (Wrote o n a b (e ∷ [])) (sym (p.1 ∙ ap (λ f. Err f) p.2)) w
 
-pub block_wanted : (o : Option (List ℕ)) (a : ℕ) (es : List Event) (r : Result (Unit {0}) StateFault) → IsErrAnd r (λ f. f ≡ WantMemory) → Wrote o o a a es r
-block_wanted o a es r out =
-    let p = err_from_is_err_and r out in
-    subst (Wrote o o a a es) (sym (p.1 ∙ ap (λ f. Err f) p.2)) (record {
-      whole = tt;
-      front = (0, omega arith, same o);
-      later = omega arith;
-      cause = λ f. absurd (cc);
-    })
-  where
-    same : (o : Option (List ℕ)) → Appends o o (take 0 (blocks_of es))
-    same None = tt
-    same (Some xs) = sym (append-nil xs)
-
 -- ---- loops
 
 -- what is said of the item at an index, and then of those behind it
@@ -131,6 +129,24 @@ pub flat_next : {X : Type 0} (f : X → List Event) (xs : List X) (i : ℕ) (d :
 flat_next f xs i d below =
     let one : suc i ≡ i + 1 = omega arith in
     ap (flat_map f) (drop-cons xs i d below ∙ ap (λ n. get_or xs i d ∷ drop n xs) one)
+
+-- the first of the rest that are of a test, or the rest without it
+pub picked_next : {X : Type 0} (f : X → List Event) (p : X → Bool) (xs : List X) (i : ℕ) (d : X) → i < length xs → p (get_or xs i d) ≡ true
+    → flat_map f (filter p (drop i xs)) ≡ f (get_or xs i d) ++ flat_map f (filter p (drop (i + 1) xs))
+picked_next f p xs i d below is =
+    let one : suc i ≡ i + 1 = omega arith in
+    ap (λ l. flat_map f (filter p l)) (drop-cons xs i d below ∙ ap (λ n. get_or xs i d ∷ drop n xs) one)
+    ∙ ap (λ t. flat_map f (cond t (get_or xs i d ∷ filter p (drop (i + 1) xs)) (filter p (drop (i + 1) xs)))) is
+
+pub passed_next : {X : Type 0} (f : X → List Event) (p : X → Bool) (xs : List X) (i : ℕ) (d : X) → i < length xs → p (get_or xs i d) ≡ false
+    → flat_map f (filter p (drop i xs)) ≡ flat_map f (filter p (drop (i + 1) xs))
+passed_next f p xs i d below is =
+    let one : suc i ≡ i + 1 = omega arith in
+    ap (λ l. flat_map f (filter p l)) (drop-cons xs i d below ∙ ap (λ n. get_or xs i d ∷ drop n xs) one)
+    ∙ ap (λ t. flat_map f (cond t (get_or xs i d ∷ filter p (drop (i + 1) xs)) (filter p (drop (i + 1) xs)))) is
+
+pub picked_over : {X : Type 0} (f : X → List Event) (p : X → Bool) (xs : List X) (i : ℕ) → length xs ≤ i → flat_map f (filter p (drop i xs)) ≡ []
+picked_over f p xs i over = ap (λ l. flat_map f (filter p l)) (drop_over xs i over)
 
 pub map_over : {X : Type 0} (f : X → Event) (xs : List X) (i : ℕ) → length xs ≤ i → map f (drop i xs) ≡ []
 map_over f xs i over = ap (map f) (drop_over xs i over)
@@ -152,6 +168,10 @@ leads_on {s = s} {o = o} {b = b} ys lead is w n d r v = lead n d r (subst (λ es
 pub leads_out : {s o n : Option (List ℕ)} {a b c : ℕ} {all rest xs : List Event} (ys : List Event) {e : StateFault} (r : Result (Unit {0}) StateFault)
     → Leads s o a b all rest → rest ≡ xs ++ ys → Wrote o n b c xs (Err e) → IsErrAnd r (λ f. f ≡ e) → Wrote s n a c all r
 leads_out {o = o} {n = n} {b = b} {c = c} ys r lead is w out = lead n c r (subst (λ es. Wrote o n b c es r) (sym is) (wrote_out ys r w out))
+
+-- what writes the rest writes it also where it is told in another way
+pub leads_as : {s o : Option (List ℕ)} {a b : ℕ} {all rest : List Event} (ys : List Event) → Leads s o a b all rest → rest ≡ ys → Leads s o a b all ys
+leads_as {o = o} {b = b} ys lead is n d r v = lead n d r (subst (λ es. Wrote o n b d es r) (sym is) v)
 
 pub leads_end : {s o : Option (List ℕ)} {a b : ℕ} {all rest : List Event} → Leads s o a b all rest → rest ≡ [] → Wrote s o a b all (Ok tt)
 leads_end {o = o} {b = b} lead is = lead o b (Ok tt) (subst (λ es. Wrote o o b b es (Ok tt)) (sym is) (wrote_nothing o b))

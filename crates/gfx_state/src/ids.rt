@@ -3,47 +3,32 @@ ghost use Rattle.std.specs.Prelude.{◌≡◌, ◌≤◌, ◌++◌, length, filt
 ghost use Rattle.gfx_model.specs.Views as view;
 ghost use Rattle.gfx_objects.specs.Object.{detail_of};
 ghost use Rattle.gfx_objects.specs.Objects.{answers};
-ghost use Rattle.gfx_state.specs.Ids.{children_in};
+ghost use Rattle.gfx_state.specs.Ids.{owned_in};
 ghost use Rattle.gfx_model.specs.Limits.{max_live_objects};
 
 use gfx_objects::{Detail, Objects};
 use gfx_types::{Ids, Kind, WantMemory};
 use std::alloc::{AllocError, Global};
 
-// The parent of a live object, 0 for any other id.
-fn parent_of(objects: &Objects, id: u64) -> u64
-    ensures { result ≡ view.parent_of (answers objects.now) id }
-{
-    match objects.get(id) {
-        Some(object) => object.parent,
-        None => 0,
-    }
-}
-
-/// The live ids of a kind with this parent, rising.
-pub(crate) fn children_of(
+/// The live ids of a kind that an object owns, rising.
+pub(crate) fn owned_ids(
     alloc: Global,
     objects: &Objects,
     kind: Kind,
-    parent: u64,
+    owner: u64,
 ) -> Result<Vec<u64>, AllocError>
-    ensures ids { IfOk result (λ ids. ids.items ≡ children_in (answers objects.now) kind parent) }
+    ensures ids { IfOk result (λ ids. ids.items ≡ owned_in (answers objects.now) kind owner) }
     ensures few { IfOk result (λ ids. length ids.items ≤ max_live_objects) }
 {
+    // few objects are live, so few are owned
     let _live = objects.live();
     let mut ids = Vec::new(alloc);
-    let mut left = objects.children(parent);
-    let mut after = 0;
-    'ids: while left > 0 {
-        let Some(id) = objects.next(kind, after) else {
-            return Ok(ids);
-        };
-        if parent_of(objects, id) == parent {
-            ids.push(id)?;
-            left -= 1;
+    'ids: for id in objects.owned(owner) {
+        if objects.is_live(kind, *id) {
+            ids.push(*id)?;
         }
-        after = id;
     }
+    ids.sort_unstable();
     Ok(ids)
 }
 
@@ -98,10 +83,10 @@ pub fn fetched(
     ensures ids { IfOk result (λ ids. ids.items ≡ view.fetched (answers objects.now) swapchain) }
     ensures few { IfOk result (λ ids. length ids.items ≤ max_live_objects) }
 {
-    let children = children_of(alloc, objects, Kind::Image, swapchain)?;
+    let owned = owned_ids(alloc, objects, Kind::Image, swapchain)?;
     let mut ids = Vec::new(alloc);
     'indices: for index in 0..images {
-        push_at(&mut ids, objects, &children, index)?;
+        push_at(&mut ids, objects, &owned, index)?;
     }
     Ok(ids)
 }

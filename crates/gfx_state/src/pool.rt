@@ -15,7 +15,7 @@ ghost use Rattle.gfx_state.specs.Written.{Wrote};
 ghost use Rattle.gfx_model.specs.Limits.{max_live_objects, max_payload};
 
 use crate::StateFault;
-use crate::ids::{children_of, ids_of};
+use crate::ids::{ids_of, owned_ids};
 use crate::keep::Keep;
 use crate::owned::Owned;
 use crate::room::Room;
@@ -179,7 +179,7 @@ fn kept_buffers<P: Keep>(
     ensures ids { IfOk result (λ ids. ids.items ≡ filter (P.kept keep.now).id (children_in (answers objects.now) kind.CommandBuffer pool)) }
     ensures few { IfOk result (λ ids. length ids.items ≤ max_live_objects) }
 {
-    let mut cbs = children_of(alloc, objects, Kind::CommandBuffer, pool)?;
+    let mut cbs = owned_ids(alloc, objects, Kind::CommandBuffer, pool)?;
     cbs.retain(|cb| keep.keeps(*cb));
     Ok(cbs)
 }

@@ -60,25 +60,27 @@ fn write_at<B: StateBytes, P: Keep, K: Sink>(
     }
 }
 
-// Writes what is kept of the live objects of a kind.
+// Writes what is kept of those of the live objects that are of a kind.
 fn write_kind<B: StateBytes, P: Keep, K: Sink>(
     sink: &mut K,
     room: &mut Room,
     parts: &Parts<'_>,
     bytes: &B,
     keep: &P,
+    ids: &[u64],
     kind: Kind,
 ) -> Result<(), StateFault>
+    requires ids { ids.now ≡ (answers_in parts.now).ids }
     requires fit { CommandsFit (buffers parts.now.recordings.now) }
     requires places { HasPlaces (answers_in parts.now) (B.bytes bytes.now) }
     ensures written { (es : List Change) → IsStored (answers_in parts.now) (B.bytes bytes.now) es → Wrote (K.taken sink.old) (K.taken sink.new) (K.faults sink.old) (K.faults sink.new)
         (kept_group (P.kept keep.now) (record { answers = answers_in parts.now; es = es }) kind) result }
     ensures counts { Counted (K.faults sink.old) (K.faults sink.new) result }
 {
-    let mut after = 0;
-    'ids: while let Some(id) = parts.objects.next(kind, after) {
-        write_at(sink, room, parts, bytes, keep, id)?;
-        after = id;
+    'ids: for id in ids {
+        if parts.objects.is_live(kind, *id) {
+            write_at(sink, room, parts, bytes, keep, *id)?;
+        }
     }
     Ok(())
 }
@@ -90,8 +92,10 @@ fn write_kinds<B: StateBytes, P: Keep, K: Sink>(
     parts: &Parts<'_>,
     bytes: &B,
     keep: &P,
+    ids: &[u64],
     kinds: &[Kind],
 ) -> Result<(), StateFault>
+    requires ids { ids.now ≡ (answers_in parts.now).ids }
     requires fit { CommandsFit (buffers parts.now.recordings.now) }
     requires places { HasPlaces (answers_in parts.now) (B.bytes bytes.now) }
     ensures written { (es : List Change) → IsStored (answers_in parts.now) (B.bytes bytes.now) es → Wrote (K.taken sink.old) (K.taken sink.new) (K.faults sink.old) (K.faults sink.new)
@@ -99,7 +103,7 @@ fn write_kinds<B: StateBytes, P: Keep, K: Sink>(
     ensures counts { Counted (K.faults sink.old) (K.faults sink.new) result }
 {
     'kinds: for kind in kinds {
-        write_kind(sink, room, parts, bytes, keep, *kind)?;
+        write_kind(sink, room, parts, bytes, keep, ids, *kind)?;
     }
     Ok(())
 }
@@ -142,8 +146,9 @@ fn write_all<B: StateBytes, P: Keep, K: Sink>(
         (kept_by (P.kept keep.now) (record { answers = answers_in parts.now; es = es }) frame) result }
     ensures counts { Counted (K.faults sink.old) (K.faults sink.new) result }
 {
+    let ids = parts.objects.ids(room.alloc)?;
     write_begin(sink, room, frame)?;
-    write_kinds(sink, room, parts, bytes, keep, &ORDER)?;
+    write_kinds(sink, room, parts, bytes, keep, &ids, &ORDER)?;
     write_end(sink, room, frame)
 }
 

@@ -1,5 +1,5 @@
 -- What a change of the list of rows, or of the places of their ids, makes of the rows under ids.
-use Rattle.std.proofs.Common.{◌≡◌, Bool, Bor, IsSome, ◌≢◌, ℕ, zero, suc, ◌<◌, ◌≤◌, ◌+◌, ◌-◌, ◌==◌, nat_lt, ◌||◌, true, false, if◌then◌else◌, is_some, List, [], ◌∷◌, ◌++◌, length, slice_set, slice_get, take, option_and_then, Option, Some, None, refl, sym, ap, ◌∙◌, arith}
+use Rattle.std.proofs.Common.{◌≡◌, Bool, Bor, IsSome, ◌≢◌, ℕ, zero, suc, ◌<◌, ◌+◌, ◌-◌, ◌==◌, nat_lt, ◌||◌, true, false, if◌then◌else◌, is_some, List, [], ◌∷◌, ◌++◌, length, slice_set, slice_get, take, option_and_then, Option, Some, None, refl, sym, ap, ◌∙◌, arith}
 use Rattle.std.specs.List.{slice_index_or, swap_remove}
 use Rattle.std.specs.Ordering.{nat_cmp}
 use Rattle.std.specs.Cmp.{nat_cmp_total}

@@ -95,9 +95,6 @@ module _ {X : Type 0} where
 
   -- ---- that no id stands in both
 
-  pub apart_empty : (es : List (ℕ × X)) (m : FinMap nat_cmp X) → es ≡ [] → IsApart es m
-  apart_empty es m e q = rw e refl
-
   as_found : (es : List (ℕ × X)) (m : FinMap nat_cmp X) → ((q : ℕ) → is_some (lookup (is_at (nat_cmp q)) es) && is_some (map.get m q) ≡ false) → IsApart es m
   as_found es m apart q = rw lookup_find at (apart q)
 

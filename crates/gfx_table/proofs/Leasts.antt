@@ -17,10 +17,6 @@ use Rattle.gfx_table.specs.Values.{none_above}
 use Rattle.gfx_table.specs.Joined.{joined, IsApart}
 use Rattle.gfx_table.specs.Least.{lesser_of, least_in}
 
-lesser-None : (o : Option ℕ) → lesser_of o None ≡ o
-lesser-None None = refl
-lesser-None (Some a) = refl
-
 lesser_assoc : (a b c : Option ℕ) → lesser_of (lesser_of a b) c ≡ lesser_of a (lesser_of b c)
 lesser_assoc None b c = refl
 lesser_assoc (Some x) None c = refl

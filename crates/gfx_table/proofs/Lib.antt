@@ -5,3 +5,4 @@ mod Densing
 mod Grouping
 mod Places
 mod Slotting
+pub mod Sorting

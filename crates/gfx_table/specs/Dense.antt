@@ -10,6 +10,10 @@ use Rattle.gfx_table.specs.Values.{with_rows}
 abbrev pub is_listed : ℕ → List ℕ → Bool
 is_listed id ids = list_any (λ x. x == id) ids
 
+-- each id stands once in the list
+abbrev pub StandApart : List ℕ → Type 0
+StandApart ids = (i j id : ℕ) → slice_get ids i ≡ Some id → slice_get ids j ≡ Some id → i ≡ j
+
 -- under each id the row at its place
 unfoldable pub rows_of : {X : Type 0} → List X → FinMap nat_cmp ℕ → FinMap nat_cmp X
 rows_of rows places = with_rows (λ id place. slice_get rows place) places

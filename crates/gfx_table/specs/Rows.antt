@@ -1,17 +1,17 @@
 -- Laws of maps from ids to rows: the ids in order, sums over the rows, and going over the ids above a given one.
-use Rattle.std.specs.Prelude.{◌≡◌, ℕ, ◌+◌, ◌<◌, ◌≤◌, ◌==◌, true, List, [], ◌∷◌, T, Option, Some, None, is_some, option_and_then, option_map, filter_map, filter, find, map as each, sum_by, nat_lt, nat_le, if◌then◌else◌, refl}
+use Rattle.std.specs.Prelude.{◌≡◌, ℕ, ◌+◌, ◌<◌, ◌≤◌, ◌==◌, true, List, [], ◌∷◌, ◌++◌, T, Option, Some, None, is_some, option_and_then, option_map, filter_map, filter, find, map as each, sum_by, nat_lt, nat_le, if◌then◌else◌, refl}
 use Rattle.std.specs.Option.{option_map_or}
 use Rattle.std.specs.List.{cons_option}
 use Rattle.std.proofs.Common.{ap, sym, ◌∙◌, arith, zero-add}
 use Rattle.std.proofs.lemmas.List.Sums.{sum_by-cons}
-use Rattle.std.specs.Ordering.{nat_cmp, eq_by_cmp}
+use Rattle.std.specs.Ordering.{nat_cmp}
 use Rattle.std.specs.Cmp.{nat_cmp_total}
 use Rattle.std.proofs.lemmas.Bool.Decides.{nat_tests}
 use Rattle.std.specs.FinMap as map
 use Rattle.std.specs.FinMap.{FinMap, put, is_sorted, entries, entries_sorted, entries-insert, get-entries, same_map, nat_cmp-IsAntisymmetric, get-insert, get-remove}
 use Rattle.std.specs.FinMap.Entries.{below_all}
 use Rattle.gfx_table.specs.Slots.{least_above}
-use Rattle.gfx_table.specs.Values.{changed, none_above, with_rows, get-with_rows, entries-with_rows}
+use Rattle.gfx_table.specs.Values.{changed, none_above, with_rows, entries-with_rows}
 
 -- ---- the ids
 
@@ -61,16 +61,6 @@ module _ {X : Type 0} where
       let b = insert_at m id first q in
       let c = insert_at m id second q in
       grind (arith, nat_tests, a, b, c))
-
-  -- to take a row out is to keep the others
-  pub remove_is_kept : (m : FinMap nat_cmp X) (id : ℕ) → map.remove m id ≡ with_rows (λ other row. if other == id then None else Some row) m
-  remove_is_kept m id = same_rows _ _ (λ q. let a = get-remove nat_cmp_total m id q in let b = get-with_rows (λ other row. if other == id then None else Some row) m q in cases q (map.get m q) a b)
-    where
-      cases : (q : ℕ) (o : Option X) → map.get (map.remove m id) q ≡ (if eq_by_cmp nat_cmp q id then None else o)
-          → map.get (with_rows (λ other row. if other == id then None else Some row) m) q ≡ option_and_then (λ row. if q == id then None else Some row) o
-          → map.get (map.remove m id) q ≡ map.get (with_rows (λ other row. if other == id then None else Some row) m) q
-      cases q None a b = grind (arith, nat_tests)
-      cases q (Some row) a b = grind (arith, nat_tests)
 
   ids-put : (es : List (ℕ × X)) (id : ℕ) (row : X) → map.find nat_cmp id es ≡ None → each (λ e. e.0) (put nat_cmp id row es) ≡ in_order id (each (λ e. e.0) es)
   ids-put [] id row none = refl
@@ -213,6 +203,18 @@ module _ {X : Type 0} where
       let all = all_above es x y rest le in
       grind (arith, nat_tests, all)
 
+  zero_list : (es : List (ℕ × X)) → T (is_sorted nat_cmp es) → each (λ e. e.0) es ≡ (if is_some (map.find nat_cmp 0 es) then 0 ∷ [] else []) ++ filter (λ id. nat_lt 0 id) (each (λ e. e.0) es)
+  zero_list [] h = refl
+  zero_list (e ∷ es) h =
+      let below : T (below_all nat_cmp e.0 es) = grind arith in
+      let rest = all_above es e.0 0 below (omega arith) in
+      let none = none_above es 0 e.0 below in
+      grind (arith, nat_tests, rest, none)
+
+  -- 0, where it is one of them, and then the ids above it
+  pub zero_first : (m : FinMap nat_cmp X) → ids m ≡ (if is_some (map.get m 0) then 0 ∷ [] else []) ++ ids_above 0 m
+  zero_first m = zero_list (entries m) (entries_sorted m) ∙ ap (λ o. (if is_some o then 0 ∷ [] else []) ++ ids_above 0 m) (sym (get-entries m 0))
+
   first_passes : (es : List (ℕ × X)) (after id : ℕ) → find (λ id. nat_lt after id) (each (λ e. e.0) es) ≡ Some id → after < id
   first_passes [] after id first = cc
   first_passes (e ∷ es) after id first = let rest = first_passes es after id in grind (arith, nat_tests, rest)
@@ -254,9 +256,6 @@ module _ {X Y : Type 0} (change : ℕ → X → Option Y) where
       ∙ ap (λ n. option_map_or (weigh e.0) (change e.0 e.1) 0 + n) (total_changed weigh es)
       ∙ sym (sum_by-cons (λ e. option_map_or (weigh e.0) (change e.0 e.1) 0) e es)
 
-  pub total-with_rows : (weigh : ℕ → Y → ℕ) (m : FinMap nat_cmp X) → total weigh (with_rows change m) ≡ total (λ id row. option_map_or (weigh id) (change id row) 0) m
-  total-with_rows weigh m = ap (sum_by (λ e. weigh e.0 e.1)) (entries-with_rows change m) ∙ total_changed weigh (entries m)
-
   ids_changed : (look : ℕ → Option X) (es : List (ℕ × X)) → Looks look es
       → each (λ e. e.0) (filter_map (changed change) es) ≡ filter (λ id. is_some (option_and_then (change id) (look id))) (each (λ e. e.0) es)
   ids_changed look [] h = refl
@@ -264,6 +263,3 @@ module _ {X Y : Type 0} (change : ℕ → X → Option Y) where
 
   pub ids-with_rows : (m : FinMap nat_cmp X) → ids (with_rows change m) ≡ filter (λ id. is_some (option_and_then (change id) (map.get m id))) (ids m)
   ids-with_rows m = ap (each (λ e. e.0)) (entries-with_rows change m) ∙ ids_changed (map.get m) (entries m) (looks_map m)
-
-  pub got-with_rows : (m : FinMap nat_cmp X) → map.get (with_rows change m) ≡ (λ id. option_and_then (change id) (map.get m id))
-  got-with_rows m = λ i id. (get-with_rows change m id) i

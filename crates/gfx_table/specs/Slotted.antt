@@ -1,5 +1,5 @@
--- Rows in slots to which their ids lead.
-use Rattle.std.specs.Prelude.{◌≡◌, ℕ, ◌==◌, bit_and, List, [], ◌∷◌, Option, Some, None, slice_index_or, if◌then◌else◌}
+-- Rows in groups of slots to which their ids lead.
+use Rattle.std.specs.Prelude.{◌≡◌, ℕ, ◌+◌, ◌%◌, ◌<◌, ◌≤◌, ◌==◌, min, Bool, false, bit_and, List, [], ◌∷◌, length, Option, Some, None, slice_index_or, if◌then◌else◌}
 use Rattle.std.specs.Ordering.{nat_cmp}
 use Rattle.std.specs.FinMap as map
 use Rattle.std.specs.FinMap.{FinMap}
@@ -20,11 +20,46 @@ filled [] = []
 filled (None ∷ slots) = filled slots
 filled (Some e ∷ slots) = e ∷ filled slots
 
--- the bits of each id under the mask are the number of its slot
-abbrev pub ArePlaced : {X : Type 0} → ℕ → List (Option (ℕ × X)) → Type 0
-ArePlaced {X} mask slots = (i : ℕ) (e : ℕ × X) → slot_at slots i ≡ Some e → bit_and e.0 mask ≡ i
+-- the slot is one of the eight from the first on
+pub record IsInGroup (first slot : ℕ) : Type 0 where
+  pub from : first ≤ slot
+  pub below : slot < first + 8
 
--- each entry stands in its slot, and no id stands in a slot and in the rest
-pub record IsSlotted {X : Type 0} (mask : ℕ) (slots : List (Option (ℕ × X))) (rest : FinMap nat_cmp X) : Type 0 where
+-- the slot of an id in its group, whose number is a usize
+abbrev pub own_slot : ℕ → ℕ → ℕ
+own_slot first id = min (first + id % 8) 18446744073709551615
+
+-- an id stands in its own slot, if it stands in one
+abbrev pub StandsOwn : {X : Type 0} → List (Option (ℕ × X)) → ℕ → ℕ → Type 0
+StandsOwn {X} slots first id = (i : ℕ) (e : ℕ × X) → slot_at slots i ≡ Some e → e.0 ≡ id → i ≡ own_slot first id
+
+-- no row of the id stands in the group
+abbrev pub IsNowhere : {X : Type 0} → List (Option (ℕ × X)) → ℕ → ℕ → Type 0
+IsNowhere slots first id = (slot : ℕ) → IsInGroup first slot → row_in (slot_at slots slot) id ≡ None
+
+-- a row of the id may be put into the slot: it stands there, or the slot is free and no row of it stands in the group or in the rest
+pub record CanTake {X : Type 0} (slots : List (Option (ℕ × X))) (rest : FinMap nat_cmp X) (first id slot : ℕ) : Type 0 where
+  pub group : IsInGroup first slot
+  pub inside : slot < length slots
+  pub own : (e : ℕ × X) → slot_at slots slot ≡ Some e → e.0 ≡ id
+  pub free : slot_at slots slot ≡ None → IsNowhere slots first id
+  pub missing : slot_at slots slot ≡ None → map.get rest id ≡ None
+
+-- each id stands in one slot
+abbrev pub StandOnce : {X : Type 0} → List (Option (ℕ × X)) → Type 0
+StandOnce {X} slots = (i j : ℕ) (e f : ℕ × X) → slot_at slots i ≡ Some e → slot_at slots j ≡ Some f → e.0 ≡ f.0 → i ≡ j
+
+-- each id stands in its own slot
+abbrev pub AreOwn : {X : Type 0} → ℕ → List (Option (ℕ × X)) → Type 0
+AreOwn {X} mask slots = (i : ℕ) (e : ℕ × X) → slot_at slots i ≡ Some e → i ≡ own_slot (bit_and e.0 mask) e.0
+
+-- the bits of each id under the mask tell where its group begins, and it stands in one slot
+pub record ArePlaced {X : Type 0} (mask : ℕ) (slots : List (Option (ℕ × X))) : Type 0 where
+  pub group : (i : ℕ) (e : ℕ × X) → slot_at slots i ≡ Some e → IsInGroup (bit_and e.0 mask) i
+  pub once : StandOnce slots
+
+-- each entry stands in its group, in its own slot where none is displaced, and no id stands in a slot and in the rest
+pub record IsSlotted {X : Type 0} (mask : ℕ) (displaced : Bool) (slots : List (Option (ℕ × X))) (rest : FinMap nat_cmp X) : Type 0 where
   pub placed : ArePlaced mask slots
+  pub own : displaced ≡ false → AreOwn mask slots
   pub apart : IsApart (filled slots) rest

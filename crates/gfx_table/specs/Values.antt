@@ -53,14 +53,6 @@ module _ {X Y : Type 0} (change : ℕ → X → Option Y) where
   unfolding with_rows
   entries-with_rows m = entries-from_sorted nat_cmp (filter_map changed (entries m)) (sorted-changed (entries m) (entries_sorted m))
 
-  pub with_rows-from_sorted : (es : List (ℕ × X)) → T (is_sorted nat_cmp es) → with_rows (from_sorted es) ≡ from_sorted (filter_map changed es)
-  unfolding with_rows
-  with_rows-from_sorted es h = ap (λ l. from_sorted (filter_map changed l)) (entries-from_sorted nat_cmp es h)
-
--- each row changed
-abbrev pub map_rows : {X Y : Type 0} → (ℕ → X → Y) → FinMap nat_cmp X → FinMap nat_cmp Y
-map_rows f = with_rows (λ id row. Some (f id row))
-
 -- the rows that pass
 abbrev pub kept_rows : {X : Type 0} → (ℕ → X → Bool) → FinMap nat_cmp X → FinMap nat_cmp X
 kept_rows p = with_rows (λ id row. if p id row then Some row else None)

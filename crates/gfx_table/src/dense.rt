@@ -3,7 +3,7 @@ ghost use Rattle.std.specs.Prelude.{◌≡◌, ℕ, ◌+◌, ◌≤◌, true, []
 ghost use Rattle.std.specs.Option.{option_copied, option_copied_mut};
 ghost use Rattle.std.specs.Borrow.{LendsIf, sem};
 ghost use Rattle.std.specs.FinMap as map;
-ghost use Rattle.gfx_table.specs.Dense.{is_listed, settled};
+ghost use Rattle.gfx_table.specs.Dense.{is_listed, settled, StandApart};
 
 use crate::slotted::Slotted;
 use std::alloc::{AllocError, Global};
@@ -59,7 +59,8 @@ impl<V: Drop> Dense<V> {
 
     /// The ids, each once.
     pub fn ids(&self) -> &[u64]
-        ensures { (id : ℕ) → is_listed id result.now ≡ is_some (map.get self.now.map id) }
+        ensures all { (id : ℕ) → is_listed id result.now ≡ is_some (map.get self.now.map id) }
+        ensures once { StandApart result.now }
     {
         &self.ids
     }

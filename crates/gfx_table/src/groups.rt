@@ -1,6 +1,6 @@
 //! Sets of ids under ids.
 ghost use Rattle.std.specs.Prelude.{◌≡◌, ℕ, ◌+◌, ◌≤◌, ◌==◌, ◌&&◌, ◌||◌, false, OnOk, if◌then◌else◌};
-ghost use Rattle.gfx_table.specs.Dense.{is_listed};
+ghost use Rattle.gfx_table.specs.Dense.{is_listed, StandApart};
 ghost use Rattle.gfx_table.specs.Groups.{is_member, room_in};
 
 use crate::dense::Dense;
@@ -26,7 +26,8 @@ impl Groups {
 
     /// The members of a set, each once.
     pub fn members(&self, group: u64) -> &[u64]
-        ensures { (id : ℕ) → is_listed id result.now ≡ is_member self.now.sets.map group id }
+        ensures all { (id : ℕ) → is_listed id result.now ≡ is_member self.now.sets.map group id }
+        ensures once { StandApart result.now }
     {
         match self.sets.get(group) {
             Some(set) => set.ids(),

@@ -1,5 +1,5 @@
 //! A table of rows under ids.
-ghost use Rattle.std.specs.Prelude.{◌≡◌, ◌+◌, ◌≤◌, ◌↔◌, IsTrue, IsSome, OnOk, None};
+ghost use Rattle.std.specs.Prelude.{◌≡◌, ◌+◌, ◌≤◌, ◌↔◌, ◌++◌, IsTrue, IsSome, OnOk, None};
 ghost use Rattle.std.specs.Option.{option_copied};
 ghost use Rattle.std.specs.FinMap as map;
 ghost use Rattle.gfx_table.specs.Slots.{least_above};
@@ -113,6 +113,21 @@ impl<V: Drop> Table<V> {
             Some(row) => Some(row),
             None => self.spilled.remove(id),
         }
+    }
+
+    /// Appends the ids, rising.
+    pub(crate) fn push_ids(&self, ids: &mut Vec<u64>) -> Result<(), AllocError>
+        ensures { OnOk result (ids.new.items ≡ ids.old.items ++ map.keys self.now.map) }
+    {
+        if self.get(0).is_some() {
+            ids.push(0)?;
+        }
+        let mut after = 0;
+        'rows: while let Some(id) = self.next_above(after) {
+            ids.push(id)?;
+            after = id;
+        }
+        Ok(())
     }
 
     /// The least id above the given one.

@@ -1,28 +1,30 @@
 //! Small rows under ids, which are found at once where the ids lie close together.
-ghost use Rattle.std.specs.Prelude.{◌≡◌, ℕ, ◌+◌, ◌<◌, ◌≤◌, true, false, length, bit_and, slice_set, IsSome, OnOk, Some, None};
+ghost use Rattle.std.specs.Prelude.{◌≡◌, ℕ, ◌+◌, ◌<◌, ◌≤◌, ◌++◌, true, false, length, bit_and, slice_set, is_some, IsSome, IfSome, IfOk, OnOk, Some, None, map as each};
 ghost use Rattle.std.specs.Option.{option_copied, option_or};
 ghost use Rattle.std.specs.Ordering.{nat_cmp};
 ghost use Rattle.std.specs.FinMap as map;
-ghost use Rattle.gfx_table.specs.Slotted.{slot_at, row_in, filled, ArePlaced};
+ghost use Rattle.gfx_table.specs.Slotted.{slot_at, row_in, filled, own_slot, StandsOwn, IsInGroup, IsNowhere, CanTake, StandOnce, AreOwn, ArePlaced};
 
 use crate::ordered::Table;
 use std::alloc::{AllocError, Global};
 use std::marker::Model;
 use std::mem;
 
-// The bits that tell a slot where there are fewest.
-const FEW: u64 = 3;
+// So many slots stand together, and an id may stand in any of those to which its bits lead.
+const GROUP: usize = 8;
 
-/// Small rows under ids, in no order. The last bits of an id are the number of its slot, and a row whose slot is taken stands
-/// in a table. So of ids that lie close together, as programs draw them, each has a slot of its own, and no ids cost more than
-/// the table does.
+/// Small rows under ids, in no order. The last bits of an id tell a group of slots, and a row whose group is full stands in a
+/// table. So of ids that lie close together, as programs draw them, each has a slot of its own, of ids drawn at random few go
+/// into the table, and no ids cost more than the table does.
 #[derive(Drop)]
 pub struct Slotted<V: Copy> {
     slots: Vec<Option<(u64, V)>>,
-    // the bits of an id that tell its slot
+    // the bits of an id that tell where its group begins
     mask: u64,
     // how many slots are taken
     taken: usize,
+    // whether an id may stand in another slot of its group than its own
+    displaced: bool,
     rest: Table<V>,
     alloc: Global,
 }
@@ -38,7 +40,7 @@ impl<V: Copy> Model for Slotted<V> {
 
     ghost view = { λ t. record { map = joined (filled t.slots.items) t.rest.map; spare = t.rest.spare } };
 
-    ghost invariant = { λ t. IsSlotted t.mask t.slots.items t.rest.map };
+    ghost invariant = { λ t. IsSlotted t.mask t.displaced t.slots.items t.rest.map };
 }
 
 impl<V: Copy> Slotted<V> {
@@ -50,6 +52,7 @@ impl<V: Copy> Slotted<V> {
             slots: Vec::new(alloc),
             mask: 0,
             taken: 0,
+            displaced: false,
             rest: Table::new(alloc),
             alloc,
         }
@@ -74,13 +77,14 @@ impl<V: Copy> Slotted<V> {
         ensures { self.new ≡ self.old }
     {
         let mask = mask_over(wanted.saturating_mul(2));
-        let Ok(mut wide) = Vec::from_elem(self.alloc, None, (mask as usize).saturating_add(1))
+        let Ok(mut wide) = Vec::from_elem(self.alloc, None, (mask as usize).saturating_add(GROUP))
         else {
             return;
         };
-        if spread(&self.slots, mask, &mut wide) {
+        if let Some(displaced) = spread(&self.slots, mask, &mut wide) {
             self.slots = wide;
             self.mask = mask;
+            self.displaced = displaced;
         }
     }
 
@@ -88,10 +92,21 @@ impl<V: Copy> Slotted<V> {
     pub fn get(&self, id: u64) -> Option<&V>
         ensures { option_copied result ≡ map.get self.now.map id }
     {
-        match in_slot(&self.slots, id, slot_of(id, self.mask)) {
-            Some(row) => Some(row),
+        match slot_of(&self.slots, self.displaced, first_of(id, self.mask), id) {
+            Some(slot) => in_slot(&self.slots, id, slot),
             None => self.rest.get(id),
         }
+    }
+
+    /// The ids, rising.
+    pub fn ids(&self, alloc: Global) -> Result<Vec<u64>, AllocError>
+        ensures { IfOk result (λ ids. ids.items ≡ map.keys self.now.map) }
+    {
+        let mut ids = Vec::new(alloc);
+        push_taken(&mut ids, &self.slots)?;
+        self.rest.push_ids(&mut ids)?;
+        ids.sort_unstable();
+        Ok(ids)
     }
 
     /// Puts a row under the id. A new id takes one of the spare places.
@@ -101,11 +116,13 @@ impl<V: Copy> Slotted<V> {
         ensures spare { self.old.spare ≤ self.new.spare + 1 }
         ensures kept { IsSome (map.get self.old.map id) → self.old.spare ≤ self.new.spare }
     {
-        let slot = slot_of(id, self.mask);
-        if may_stand(&self.slots, &self.rest, id, slot) {
-            put(&mut self.slots, &mut self.taken, slot, (id, row));
-        } else {
-            self.rest.set(id, row);
+        let first = first_of(id, self.mask);
+        match slot_for(&self.slots, self.displaced, &self.rest, first, id) {
+            Some(slot) => {
+                put(&mut self.slots, &mut self.taken, slot, (id, row));
+                self.displaced = displaces(self.displaced, slot, first, id);
+            }
+            None => self.rest.set(id, row),
         }
     }
 
@@ -115,31 +132,71 @@ impl<V: Copy> Slotted<V> {
         ensures map { self.new.map ≡ map.remove self.old.map id }
         ensures spare { self.old.spare ≤ self.new.spare }
     {
-        let slot = slot_of(id, self.mask);
-        match in_slot(&self.slots, id, slot).copied() {
-            Some(row) => {
-                self.slots[slot] = None;
-                self.taken = self.taken.saturating_sub(1);
-                Some(row)
-            }
-            None => self.rest.remove(id),
-        }
+        let Some(slot) = slot_of(&self.slots, self.displaced, first_of(id, self.mask), id) else {
+            return self.rest.remove(id);
+        };
+        let row = in_slot(&self.slots, id, slot).copied();
+        self.slots[slot] = None;
+        self.taken = self.taken.saturating_sub(1);
+        row
     }
 }
 
-// The least number without a zero among its bits that is not below another.
-fn mask_over(number: usize) -> u64 {
-    u64::MAX
-        .checked_shr((number as u64).leading_zeros())
-        .unwrap_or(0)
-        .max(FEW)
+// The bits that tell a group, where so many slots are wanted.
+fn mask_over(slots: usize) -> u64 {
+    let all = u64::MAX
+        .checked_shr((slots as u64).leading_zeros())
+        .unwrap_or(0);
+    all - all % GROUP as u64
 }
 
-// The slot of an id.
-fn slot_of(id: u64, mask: u64) -> usize
+// Where the group of an id begins.
+fn first_of(id: u64, mask: u64) -> usize
     ensures { result ≡ bit_and id mask }
 {
     (id & mask) as usize
+}
+
+// The slot that an id takes in its group while no other has it.
+fn own_of(id: u64, first: usize) -> usize
+    ensures group { IsInGroup first result }
+    ensures own { result ≡ own_slot first id }
+{
+    first.saturating_add(id as usize % GROUP)
+}
+
+// Whether an id is displaced, once this one stands in a slot.
+fn displaces(displaced: bool, slot: usize, first: usize, id: u64) -> bool
+    ensures { result ≡ false → (displaced ≡ false) × (slot ≡ own_slot first id) }
+{
+    displaced || slot != own_of(id, first)
+}
+
+// The slot in which the row of the id stands, among those of the group that begins here.
+fn slot_of<V: Copy>(
+    slots: &[Option<(u64, V)>],
+    displaced: bool,
+    first: usize,
+    id: u64,
+) -> Option<usize>
+    requires { displaced ≡ false → StandsOwn slots.now first id }
+    ensures here { IfSome result (λ s. is_some (row_in (slot_at slots.now s) id) ≡ true) }
+    ensures inside { IfSome result (IsInGroup first) }
+    ensures none { result ≡ None → IsNowhere slots.now first id }
+{
+    let own = own_of(id, first);
+    if in_slot(slots, id, own).is_some() {
+        return Some(own);
+    }
+    if !displaced {
+        return None;
+    }
+    'slots: for slot in first..first.saturating_add(GROUP) {
+        if in_slot(slots, id, slot).is_some() {
+            return Some(slot);
+        }
+    }
+    None
 }
 
 // The row in a slot, where it is that of the id.
@@ -162,18 +219,47 @@ fn row_of<V: Copy>(slot: &Option<(u64, V)>, id: u64) -> Option<&V>
     }
 }
 
-// Whether a row under the id goes into its slot: it is there already, or the slot is free and the rest has none.
-fn may_stand<V: Copy>(slots: &[Option<(u64, V)>], rest: &Table<V>, id: u64, slot: usize) -> bool
-    ensures inside { result ≡ true → slot < length slots.now }
-    ensures own { result ≡ true → (e : ℕ × V) → slot_at slots.now slot ≡ Some e → e.0 ≡ id }
-    ensures free { result ≡ true → slot_at slots.now slot ≡ None → map.get rest.now.map id ≡ None }
-    ensures other { result ≡ false → row_in (slot_at slots.now slot) id ≡ None }
+// The slot into which a row under the id goes: the one in which it is already, or a free one of the group where the rest has
+// none.
+fn slot_for<V: Copy>(
+    slots: &[Option<(u64, V)>],
+    displaced: bool,
+    rest: &Table<V>,
+    first: usize,
+    id: u64,
+) -> Option<usize>
+    requires { displaced ≡ false → StandsOwn slots.now first id }
+    ensures some { IfSome result (CanTake slots.now rest.now.map first id) }
+    ensures none { result ≡ None → IsNowhere slots.now first id }
 {
-    match slots.get(slot) {
-        Some(Some(entry)) => entry.0 == id,
-        Some(None) => rest.get(id).is_none(),
-        None => false,
+    match slot_of(slots, displaced, first, id) {
+        Some(slot) => Some(slot),
+        None => {
+            if rest.get(id).is_some() {
+                None
+            } else {
+                free_in(slots, first, id)
+            }
+        }
     }
+}
+
+// A free slot of the group that begins here: that of the id, where it is free.
+fn free_in<V: Copy>(slots: &[Option<(u64, V)>], first: usize, id: u64) -> Option<usize>
+    ensures group { IfSome result (IsInGroup first) }
+    ensures inside { IfSome result (λ s. s < length slots.now) }
+    ensures free { IfSome result (λ s. slot_at slots.now s ≡ None) }
+{
+    let own = own_of(id, first);
+    if is_free(slots, own) {
+        return Some(own);
+    }
+    'slots: for slot in first..first.saturating_add(GROUP) {
+        if is_free(slots, slot) {
+            return Some(slot);
+        }
+    }
+    None
 }
 
 // Puts an entry into a slot, and counts the slot where it was free.
@@ -186,34 +272,43 @@ fn put<V: Copy>(slots: &mut Vec<Option<(u64, V)>>, taken: &mut usize, slot: usiz
     }
 }
 
-// Puts what stands in the slots into more slots, and says whether there is one for each.
-fn spread<V: Copy>(slots: &[Option<(u64, V)>], mask: u64, wide: &mut Vec<Option<(u64, V)>>) -> bool
-    requires { (i : ℕ) → slot_at wide.old.items i ≡ None }
-    ensures placed { result ≡ true → ArePlaced mask wide.new.items }
-    ensures same { result ≡ true → (q : ℕ) → map.find nat_cmp q (filled wide.new.items) ≡ map.find nat_cmp q (filled slots.now) }
+// Puts what stands in the slots into more slots, where there is one for each, and says whether an id is displaced there.
+fn spread<V: Copy>(
+    slots: &[Option<(u64, V)>],
+    mask: u64,
+    wide: &mut Vec<Option<(u64, V)>>,
+) -> Option<bool>
+    requires once { StandOnce slots.now }
+    requires free { (i : ℕ) → slot_at wide.old.items i ≡ None }
+    ensures placed { IfSome result (λ displaced. ArePlaced mask wide.new.items) }
+    ensures own { IfSome result (λ displaced. displaced ≡ false → AreOwn mask wide.new.items) }
+    ensures same { IfSome result (λ displaced. (q : ℕ) → map.find nat_cmp q (filled wide.new.items) ≡ map.find nat_cmp q (filled slots.now)) }
 {
+    let mut displaced = false;
     'slots: for slot in slots {
         if let Some(entry) = slot {
-            if !spread_one(*entry, mask, wide) {
-                return false;
-            }
+            let first = first_of(entry.0, mask);
+            let place = spread_one(*entry, first, wide)?;
+            displaced = displaces(displaced, place, first, entry.0);
         }
     }
-    true
+    Some(displaced)
 }
 
-// Puts one entry into its slot, and says whether that was free.
-fn spread_one<V: Copy>(entry: (u64, V), mask: u64, wide: &mut Vec<Option<(u64, V)>>) -> bool
-    requires { ArePlaced mask wide.old.items }
-    ensures placed { result ≡ true → ArePlaced mask wide.new.items }
-    ensures same { result ≡ true → (q : ℕ) → map.find nat_cmp q (filled wide.new.items) ≡ option_or (map.find nat_cmp q (filled wide.old.items)) (row_in (Some entry) q) }
+// Puts an entry into a free slot of the group that begins here, where there is one.
+fn spread_one<V: Copy>(
+    entry: (u64, V),
+    first: usize,
+    wide: &mut Vec<Option<(u64, V)>>,
+) -> Option<usize>
+    ensures group { IfSome result (IsInGroup first) }
+    ensures inside { IfSome result (λ s. s < length wide.old.items) }
+    ensures free { IfSome result (λ s. slot_at wide.old.items s ≡ None) }
+    ensures put { IfSome result (λ s. wide.new.items ≡ slice_set wide.old.items s (Some entry)) }
 {
-    let slot = slot_of(entry.0, mask);
-    if !is_free(wide, slot) {
-        return false;
-    }
+    let slot = free_in(wide, first, entry.0)?;
     wide[slot] = Some(entry);
-    true
+    Some(slot)
 }
 
 // Whether there is such a slot, and nothing stands in it.
@@ -222,4 +317,16 @@ fn is_free<V: Copy>(slots: &[Option<(u64, V)>], slot: usize) -> bool
     ensures free { result ≡ true → slot_at slots.now slot ≡ None }
 {
     matches!(slots.get(slot), Some(None))
+}
+
+// Appends the ids of what stands in the slots.
+fn push_taken<V: Copy>(ids: &mut Vec<u64>, slots: &[Option<(u64, V)>]) -> Result<(), AllocError>
+    ensures { OnOk result (ids.new.items ≡ ids.old.items ++ each (λ e. e.0) (filled slots.now)) }
+{
+    'slots: for slot in slots {
+        if let Some(entry) = slot {
+            ids.push(entry.0)?;
+        }
+    }
+    Ok(())
 }

@@ -29,10 +29,6 @@ pub all_from_map : {X Y : Type 0} (P : Y → Type 0) (f : X → Y) (xs : List X)
 all_from_map P f [] a = tt
 all_from_map P f (x ∷ xs) a = (a.0, all_from_map P f xs a.1)
 
-taken_live : (v : View) (x : ℕ) → (after v taken).live x ≡ v.live x
-unfolding after
-taken_live v x = refl
-
 -- each fence that is reset has a signal
 pub fences_have : (v w : View) (device : ℕ) (fences : List ℕ) → IsNext v (ResetFences device fences) → w ≡ after v taken → AllByRecursion (HasSignal w) fences
 unfolding place_of row_of id_of after

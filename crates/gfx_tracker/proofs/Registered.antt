@@ -261,13 +261,6 @@ module _ (k n : Kept) (s : FinMap nat_cmp Bool) (m : FinMap nat_cmp (List Bool))
   unfolding after
   answers_ended = step_onto k n s (without_signal gone o.detail s) m (without_images gone o.detail m) (ends gone) e (λ j x. signal_ended x j) (λ j x. mark_ended x j)
 
--- what is kept of a live object
-pub signal_there : (k : Kept) (s : FinMap nat_cmp Bool) (m : FinMap nat_cmp (List Bool)) → IsRegistered k s m → (x : ℕ) (o : Object) → (answers k).live x ≡ Some o → has_signal o.detail ≡ true → is_some (map.get s x) ≡ true
-signal_there k s m inv x o some has = inv.signal x ∙ ap (told false has_signal) some ∙ has
-
-pub marks_there : (k : Kept) (s : FinMap nat_cmp Bool) (m : FinMap nat_cmp (List Bool)) → IsRegistered k s m → (x : ℕ) (o : Object) → (answers k).live x ≡ Some o → option_map length (map.get m x) ≡ images_of o.detail
-marks_there k s m inv x o some = inv.marks x ∙ ap (told None images_of) some
-
 -- ---- the same objects
 
 pub registered_same : (k n : Kept) (s : FinMap nat_cmp Bool) (m : FinMap nat_cmp (List Bool)) → IsRegistered k s m → ((x : ℕ) → (answers n).live x ≡ (answers k).live x) → IsRegistered n s m

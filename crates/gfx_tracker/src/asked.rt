@@ -50,7 +50,7 @@ impl Answers for State {
     }
 
     fn has_swapchain(&self, surface: u64) -> bool {
-        sought::has_swapchain(&self.registry.objects, surface)
+        self.registry.objects.has_swapchain(surface)
     }
 
     fn fetched_at(&self, swapchain: u64, place: usize) -> Option<u64> {

@@ -88,13 +88,6 @@ pub(crate) fn queue_of(objects: &Objects, device: u64) -> Option<u64>
     Sought::QueueOf(device).first(objects)
 }
 
-/// Whether a live swapchain was created on this surface.
-pub(crate) fn has_swapchain(objects: &Objects, surface: u64) -> bool
-    ensures { result ≡ view.has_swapchain (answers objects.now) surface }
-{
-    objects.has_swapchain(surface)
-}
-
 /// The fetched image of a swapchain at a place.
 pub(crate) fn fetched_at(objects: &Objects, swapchain: u64, place: usize) -> Option<u64>
     ensures { result ≡ slice_get (view.fetched (answers objects.now) swapchain) place }

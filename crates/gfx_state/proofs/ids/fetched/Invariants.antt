@@ -2,7 +2,7 @@ use Rattle.std.proofs.Common.{◌≡◌, ◌++◌, ◌-◌}
 use Rattle.gfx_types.specs.declared.names.Kind.TheVariants as kind
 use Rattle.gfx_model.specs.Views.{fetched}
 use Rattle.gfx_objects.specs.Objects.{answers}
-use Rattle.gfx_state.specs.Ids.{children_in}
+use Rattle.gfx_state.specs.Ids.{owned_in}
 use Rattle.gfx_state.proofs.Listing.{images_at}
 use Rattle.gfx_state.proofs.ids.fetched.Given as goal
 
@@ -10,4 +10,4 @@ use Rattle.gfx_state.proofs.ids.fetched.Given as goal
 abbrev pub invariant-indices : goal.invariant-indices
 invariant-indices l =
     fetched (answers l.objects) l.swapchain
-    ≡ l.ids.items ++ images_at (answers l.objects) (children_in (answers l.objects) kind.Image l.swapchain) l.index (l.images - l.index)
+    ≡ l.ids.items ++ images_at (answers l.objects) (owned_in (answers l.objects) kind.Image l.swapchain) l.index (l.images - l.index)

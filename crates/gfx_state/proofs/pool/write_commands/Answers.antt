@@ -1,4 +1,4 @@
-use Rattle.std.proofs.Common.{◌+◌, ◌∷◌, [], drop, ap, arith}
+use Rattle.std.proofs.Common.{◌+◌, drop, arith}
 use Rattle.gfx_commands.specs.Recorded.{event_in}
 use Rattle.gfx_commands.specs.Recordings.{buffers}
 use Rattle.gfx_state.proofs.Writing.{leads_on, leads_out, leads_end}

@@ -1,25 +1,18 @@
-use Rattle.std.proofs.Common.{Some, None, refl, sym, ap, ◌∙◌}
-use Rattle.std.specs.Option.{option_or}
-use Rattle.gfx_table.specs.Slotted.{filled, row_in}
-use Rattle.gfx_table.proofs.Joining.{option_or-None}
-use Rattle.gfx_table.proofs.Slotting.{none_placed, found_after}
+use Rattle.gfx_table.proofs.Slotting.{spread_start, spread_past, spread_more}
 use Rattle.gfx_table.proofs.slotted.spread.Goals as goal
-use Rattle.gfx_table.proofs.slotted.spread.Goals.{in-Some+else-not-spread_one, in_default}
+use Rattle.gfx_table.proofs.slotted.spread.Goals.{in-Some+in_ok-place, in_default}
 
 pub slots-init : goal.slots-init
-slots-init g c = none_placed c.args.mask c.args.wide.now.items c.requires
+slots-init g c = spread_start c.args.mask _ c.args.slots.now c.args.wide.now.items c.requires.free
 
 pub slots-preserved : goal.slots-preserved
 slots-preserved g c = elim c.match-slot.branch [
-  | in-Some+else-not-spread_one w ↦ (
-    rw w.wide-is (w.if-not-spread_one.ensures.placed refl),
-    λ q. rw w.wide-is (w.if-not-spread_one.ensures.same refl q
-        ∙ ap (λ o. option_or o (row_in (Some w.in-Some.entry) q)) (c.slots.invariant.1 q)
-        ∙ sym (found_after c.args.slots.now c.slots.slot-index q (Some w.in-Some.entry) c.slots-test.true (rw w.in-Some.is at c.slot-item.is))),
-  )
-  | in_default w ↦ (
-    rw w.wide-is c.slots.invariant.0,
-    λ q. rw w.wide-is (c.slots.invariant.1 q ∙ sym (option_or-None _)
-        ∙ sym (found_after c.args.slots.now c.slots.slot-index q None c.slots-test.true (rw w.in_default.is at c.slot-item.is))),
-  )
+  | in-Some+in_ok-place w ↦
+      rw (w.wide-is, w.displaced-is)
+      (spread_more c.args.mask c.slots.displaced w.displaces-displaced.result c.args.slots.now c.slots.wide.items w.spread_one.new.wide.items c.slots.slot-index w.first_of-first.result w.in_ok-place.place w.in-Some.entry
+      c.requires.once c.slots-test.true (rw w.in-Some.is at c.slot-item.is) w.first_of-first.ensures w.in_ok-place.ensures.group w.in_ok-place.ensures.inside w.in_ok-place.ensures.free w.in_ok-place.ensures.put
+      w.displaces-displaced.ensures c.slots.invariant)
+  | in_default w ↦
+      rw (w.wide-is, w.displaced-is)
+      (spread_past c.args.mask c.slots.displaced c.args.slots.now c.slots.wide.items c.slots.slot-index c.slots-test.true (rw w.in_default.is at c.slot-item.is) c.slots.invariant)
 ]

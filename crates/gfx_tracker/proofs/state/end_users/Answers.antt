@@ -23,21 +23,21 @@ returns-in-Memory c =
     let v = answers c.args.objects.now in
     let there = ap (λ k. is_live v k c.args.gone) (sym c.in-Memory.is) ∙ c.requires.kind in
     c.invalidate_each.ensures
-    ∙ memory_ended v (buffers c.args.recordings.now) c.requires.plain c.requires.lawful kind.Memory c.args.gone there refl refl refl refl refl c.resting.result.now c.resting.ensures
+    ∙ memory_ended v (buffers c.args.recordings.now) c.requires.plain c.requires.lawful kind.Memory c.args.gone there refl refl refl refl refl c.resting.result.now c.resting.ensures.all
 
 pub returns-in-Swapchain : goal.returns-in-Swapchain
 returns-in-Swapchain c =
     let v = answers c.args.objects.now in
     let there = ap (λ k. is_live v k c.args.gone) (sym c.in-Swapchain.is) ∙ c.requires.kind in
     c.invalidate_each-in-Swapchain.ensures
-    ∙ swapchain_ended v (buffers c.args.recordings.now) c.requires.plain c.requires.lawful kind.Swapchain c.args.gone there refl refl refl refl refl c.owned.result.now c.owned.ensures
+    ∙ swapchain_ended v (buffers c.args.recordings.now) c.requires.plain c.requires.lawful kind.Swapchain c.args.gone there refl refl refl refl refl c.owned.result.now c.owned.ensures.all
 
 pub returns-in-Pool : goal.returns-in-Pool
 returns-in-Pool c =
     let v = answers c.args.objects.now in
     let there = ap (λ k. is_live v k c.args.gone) (sym c.in-Pool.is) ∙ c.requires.kind in
     c.reset_each.ensures
-    ∙ pool_ended v (buffers c.args.recordings.now) c.requires.plain c.requires.lawful kind.Pool c.args.gone there refl refl refl refl refl c.owned-in-Pool.result.now c.owned-in-Pool.ensures
+    ∙ pool_ended v (buffers c.args.recordings.now) c.requires.plain c.requires.lawful kind.Pool c.args.gone there refl refl refl refl refl c.owned-in-Pool.result.now c.owned-in-Pool.ensures.all
 
 pub returns-in-CommandBuffer : goal.returns-in-CommandBuffer
 returns-in-CommandBuffer c =

@@ -7,7 +7,6 @@ use Rattle.gfx_model.specs.Limits.{max_live_bytes, max_live_objects}
 use Rattle.gfx_objects.specs.Object.{detail_of, surface_of}
 use Rattle.gfx_objects.specs.Objects.{bytes_in}
 use Rattle.gfx_objects.specs.Inside.{kept_of}
-use Rattle.gfx_objects.specs.Kinds.{ids_of}
 use Rattle.gfx_objects.specs.Children.{is_at, count_of}
 use Rattle.gfx_objects.proofs.Asked.{children_few, few_pass}
 use Rattle.gfx_objects.proofs.Kept.{unused_fresh, sound_created, indexed_created}
@@ -40,11 +39,10 @@ invariant_of-self c =
     let few : map.len s.rows.map < max_live_objects = let a = ap (λ k. map.len k.rows) c.self.view_is in let b = c.requires.few in omega (arith, a, b) in
     let small : bytes_in s.rows.map + detail_bytes (detail_of o.detail) ≤ max_live_bytes = let a = ap (λ k. bytes_in k.rows) c.self.view_is in let b = c.requires.small in omega (arith, a, b) in
     record {
-      sound = sound_created (kept_of s) (record { rows = c.set.new.self.map; used = c.insert-2.new.self; owned = c.put_in.new.groups.sets.map; spare = s.room - 1 }) o.id o
-          c.set.ensures.map unused c.insert-2.ensures.ids c.requires.row c.requires.unbound few small c.self.invariant.sound;
-      indexed = indexed_created s.rows.map c.set.new.self.map (ids_of s.kinds.tables) (ids_of c.insert.new.self.tables)
-          (count_of s.children.counts.map) (count_of c.add.new.self.counts.map) s.bytes (s.bytes + c.bytes.result) s.count (s.count + 1) o.id o
-          c.set.ensures.map none c.insert.ensures.ids c.add.ensures.counts (ap (λ n. s.bytes + n) c.bytes.ensures) refl c.self.invariant.indexed;
+      sound = sound_created (kept_of s) (record { rows = c.set.new.self.map; used = c.insert.new.self; owned = c.put_in.new.groups.sets.map; spare = s.room - 1 }) o.id o
+          c.set.ensures.map unused c.insert.ensures.ids c.requires.row c.requires.unbound few small c.self.invariant.sound;
+      indexed = indexed_created s.rows.map c.set.new.self.map (count_of s.children.counts.map) (count_of c.add.new.self.counts.map) s.bytes (s.bytes + c.bytes.result) s.count (s.count + 1) o.id o
+          c.set.ensures.map none c.add.ensures.counts (ap (λ n. s.bytes + n) c.bytes.ensures) refl c.self.invariant.indexed;
       grouped = grouped_created s.rows.map c.set.new.self.map (is_member s.owned.sets.map) (is_member c.put_in.new.groups.sets.map)
           (is_member s.resting.sets.map) (is_member s.resting.sets.map) (count_of s.swapchains.counts.map) (count_of c.add_to.new.self.counts.map) o.id o
           c.self.invariant.grouped c.set.ensures.map none c.requires.unbound
@@ -52,8 +50,7 @@ invariant_of-self c =
           (λ g. c.add_to.ensures.counts g ∙ ap (λ its. count_of s.swapchains.counts.map g + (if is_at g its then 1 else 0)) c.surface-surface.ensures);
       has_room = record {
         rows = let a = room.rows in let b = c.set.ensures.spare in omega (arith, a, b, one, here);
-        used = let a = room.used in let b = c.insert-2.ensures.spare in omega (arith, a, b, one, here);
-        kinds = λ kind. let a = room.kinds kind in let b = c.insert.ensures.room kind in omega (arith, a, b, one, here);
+        used = let a = room.used in let b = c.insert.ensures.spare in omega (arith, a, b, one, here);
         children = let a = room.children in let b = c.add.ensures.room in omega (arith, a, b, one, here);
         swapchains = let a = room.swapchains in let b = c.add_to.ensures.room in omega (arith, a, b, one, here);
       };

@@ -8,8 +8,7 @@ use Rattle.gfx_model.specs.Views.{detail_bytes}
 use Rattle.gfx_objects.specs.declared.object.Object.{Object}
 use Rattle.gfx_objects.specs.Children.{count_of}
 use Rattle.gfx_objects.specs.Object.{detail_of}
-use Rattle.gfx_objects.specs.Objects.{of_kind}
-use Rattle.gfx_objects.proofs.Index.{kind_empty, total_empty}
+use Rattle.gfx_objects.proofs.Index.{total_empty}
 use Rattle.gfx_objects.proofs.Grouped.{no_groups}
 use Rattle.gfx_objects.proofs.Steps.{answers_none}
 use Rattle.gfx_objects.proofs.objects.Objects.new.Goals as goal
@@ -27,16 +26,15 @@ invariant_of-result c =
         small = let n = nothing (λ id o. detail_bytes (detail_of o.detail)) in omega (arith, n);
       };
       indexed = record {
-        by_kind = λ kind. c.new-3.ensures kind ∙ kind_empty kind ∙ ap (of_kind kind) (sym c.new.ensures);
-        by_parent = λ parent. ap (λ f. f parent) c.new-4.ensures ∙ sym (nothing (λ id o. if o.parent == parent then 1 else 0));
+        by_parent = λ parent. ap (λ f. f parent) c.new-3.ensures ∙ sym (nothing (λ id o. if o.parent == parent then 1 else 0));
         in_all = sym (nothing (λ id o. detail_bytes (detail_of o.detail)));
         in_number = sym (ap map.len c.new.ensures ∙ len-empty nat_cmp Object);
       };
-      grouped = no_groups c.new.result.map (is_member c.new-6.result.sets.map) (is_member c.new-7.result.sets.map) (count_of c.new-5.result.counts.map)
-          c.new.ensures c.new-6.ensures c.new-7.ensures c.new-5.ensures;
-      has_room = record { rows = omega arith; used = omega arith; kinds = λ kind. omega arith; children = omega arith; swapchains = omega arith };
+      grouped = no_groups c.new.result.map (is_member c.new-5.result.sets.map) (is_member c.new-6.result.sets.map) (count_of c.new-4.result.counts.map)
+          c.new.ensures c.new-5.ensures c.new-6.ensures c.new-4.ensures;
+      has_room = record { rows = omega arith; used = omega arith; children = omega arith; swapchains = omega arith };
     }
 
 pub returns-clause-plain : goal.returns-clause-plain
 returns-clause-plain c =
-    answers_none (record { rows = c.new.result.map; used = c.new-2.result; owned = c.new-6.result.sets.map; spare = 0 }) c.new.ensures c.new-2.ensures
+    answers_none (record { rows = c.new.result.map; used = c.new-2.result; owned = c.new-5.result.sets.map; spare = 0 }) c.new.ensures c.new-2.ensures

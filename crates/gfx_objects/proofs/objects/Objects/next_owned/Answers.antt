@@ -11,5 +11,5 @@ returns-clause-least c =
     let k = kept_of c.self.inside in
     c.least_of.ensures
     ∙ next_is k c.args.owner c.args.after c.members.result.now
-    (λ x. c.members.ensures x ∙ c.self.invariant.grouped.by_owner c.args.owner x ∙ owned_answered k c.args.owner x)
+    (λ x. c.members.ensures.all x ∙ c.self.invariant.grouped.by_owner c.args.owner x ∙ owned_answered k c.args.owner x)
     ∙ ap (λ k. least_above (of_owner c.args.owner k.rows) c.args.after) c.self.view_is

@@ -17,7 +17,7 @@ use Rattle.gfx_objects.proofs.objects.Objects.remove.Goals as goal
 pub owned-smaller : goal.owned-smaller
 owned-smaller c =
     let last = sym c.last.ensures.value ∙ sym c.copied.ensures ∙ c.in-Some.is in
-    let row = owned_row c.owned.self c.args.id c.in-Some.child (sym (c.owned-in-owned.ensures c.in-Some.child) ∙ last_listed c.owned-in-owned.result.now c.in-Some.child last) in
+    let row = owned_row c.owned.self c.args.id c.in-Some.child (sym (c.owned-in-owned.ensures.all c.in-Some.child) ∙ last_listed c.owned-in-owned.result.now c.in-Some.child last) in
     let less = len_removed c.owned.self.rows c.in-Some.child row.0 row.1 in
     let left = ap map.len c.remove_row.ensures.rows in
     let is : map.len c.remove_row.new.self.rows < map.len c.owned.self.rows = omega (arith, less, left) in
@@ -26,7 +26,7 @@ owned-smaller c =
 pub owned-preserved : goal.owned-preserved
 owned-preserved c =
     let last = sym c.last.ensures.value ∙ sym c.copied.ensures ∙ c.in-Some.is in
-    let row = owned_row c.owned.self c.args.id c.in-Some.child (sym (c.owned-in-owned.ensures c.in-Some.child) ∙ last_listed c.owned-in-owned.result.now c.in-Some.child last) in
+    let row = owned_row c.owned.self c.args.id c.in-Some.child (sym (c.owned-in-owned.ensures.all c.in-Some.child) ∙ last_listed c.owned-in-owned.result.now c.in-Some.child last) in
     record {
       rows = one_gone c.args.id c.in-Some.child c.args.self.now.rows c.owned.self.rows c.remove_row.new.self.rows row.0 row.1 row.2 c.remove_row.ensures.rows c.owned.invariant.rows;
       used = c.remove_row.ensures.used ∙ c.owned.invariant.used;
@@ -52,14 +52,14 @@ invariant_of-self c =
     let none = λ (x : ℕ).
     c.self.invariant.grouped.by_owner c.args.id x ∙ owned_answered (kept_of s) c.args.id x
     ∙ ap (λ k. passes (λ o. is_owned o.detail && c.args.id == o.parent) ((answers k).live x)) c.self.view_is
-    ∙ sym (c.owned-in-owned.ensures x) ∙ none_listed c.owned-in-owned.result.now last x in
+    ∙ sym (c.owned-in-owned.ensures.all x) ∙ none_listed c.owned-in-owned.result.now last x in
     record {
       sound = sound_same (kept_of s) (record { rows = s.rows.map; used = s.used; owned = c.close.new.self.sets.map; spare = s.room }) refl refl c.self.invariant.sound;
       indexed = c.self.invariant.indexed;
       grouped = grouped_same s.rows.map s.rows.map (is_member s.owned.sets.map) (is_member c.close.new.self.sets.map) (is_member s.resting.sets.map) (is_member s.resting.sets.map)
           (count_of s.swapchains.counts.map) (count_of s.swapchains.counts.map) refl
           (closed c.args.id (is_member s.owned.sets.map) (is_member c.close.new.self.sets.map) c.close.ensures none) refl refl c.self.invariant.grouped;
-      has_room = record { rows = room.rows; used = room.used; kinds = room.kinds; children = room.children; swapchains = room.swapchains };
+      has_room = record { rows = room.rows; used = room.used; children = room.children; swapchains = room.swapchains };
     }
 
 pub returns-clause-step : goal.returns-clause-step
@@ -67,6 +67,6 @@ returns-clause-step c =
     let last = sym c.last.ensures.value ∙ sym c.copied.ensures ∙ c.in_default.is in
     ended c.args.self.now c.remove_row-2.new.self c.args.id
     (all_ended c.args.id c.args.self.now.rows c.owned.self.rows c.remove_row-2.new.self.rows c.owned.invariant.rows
-    (λ x o some. not_owned_row c.owned.self c.args.id x o (sym (c.owned-in-owned.ensures x) ∙ none_listed c.owned-in-owned.result.now last x) some)
+    (λ x o some. not_owned_row c.owned.self c.args.id x o (sym (c.owned-in-owned.ensures.all x) ∙ none_listed c.owned-in-owned.result.now last x) some)
     (c.remove_row-2.ensures.rows ∙ ap (λ k. map.remove k.rows c.args.id) c.self.view_is))
     (c.remove_row-2.ensures.used ∙ ap (λ k. k.used) c.self.view_is ∙ c.owned.invariant.used)

@@ -4,7 +4,6 @@ use Rattle.gfx_table.specs.Groups.{is_member}
 use Rattle.gfx_model.specs.Views.{detail_bytes}
 use Rattle.gfx_objects.specs.Object.{detail_of}
 use Rattle.gfx_objects.specs.Inside.{kept_of}
-use Rattle.gfx_objects.specs.Kinds.{ids_of}
 use Rattle.gfx_objects.specs.Children.{is_at, count_of}
 use Rattle.gfx_objects.proofs.Index.{remove_none, total_removed, len_removed}
 use Rattle.gfx_objects.proofs.Kept.{sound_same, sound_removed, indexed_same, indexed_removed}
@@ -36,9 +35,8 @@ invariant_of-self c =
     record {
       sound = sound_removed (kept_of s) (record { rows = c.remove.new.self.map; used = s.used; owned = c.take_from.new.groups.sets.map; spare = s.room }) c.args.id o
           c.in-Some.ensures.map some refl c.self.invariant.sound;
-      indexed = indexed_removed s.rows.map c.remove.new.self.map (ids_of s.kinds.tables) (ids_of c.remove-in-Some.new.self.tables)
-          (count_of s.children.counts.map) (count_of c.remove-in-Some-2.new.self.counts.map) s.bytes (s.bytes - c.bytes.result) s.count (s.count - 1) c.args.id o
-          c.in-Some.ensures.map some c.remove-in-Some.ensures.ids c.remove-in-Some-2.ensures.counts (ap (λ n. s.bytes - n) c.bytes.ensures) refl c.self.invariant.indexed;
+      indexed = indexed_removed s.rows.map c.remove.new.self.map (count_of s.children.counts.map) (count_of c.remove-in-Some.new.self.counts.map) s.bytes (s.bytes - c.bytes.result) s.count (s.count - 1) c.args.id o
+          c.in-Some.ensures.map some c.remove-in-Some.ensures.counts (ap (λ n. s.bytes - n) c.bytes.ensures) refl c.self.invariant.indexed;
       grouped = grouped_removed s.rows.map c.remove.new.self.map (is_member s.owned.sets.map) (is_member c.take_from.new.groups.sets.map)
           (is_member s.resting.sets.map) (is_member c.take_from-in-Some.new.groups.sets.map) (count_of s.swapchains.counts.map) (count_of c.remove_from.new.self.counts.map) c.args.id o
           c.self.invariant.grouped c.in-Some.ensures.map some
@@ -48,8 +46,7 @@ invariant_of-self c =
       has_room = record {
         rows = let a = room.rows in let b = c.in-Some.ensures.spare in omega (arith, a, b);
         used = room.used;
-        kinds = λ kind. let a = room.kinds kind in let b = c.remove-in-Some.ensures.room kind in omega (arith, a, b);
-        children = let a = room.children in let b = c.remove-in-Some-2.ensures.room in omega (arith, a, b);
+        children = let a = room.children in let b = c.remove-in-Some.ensures.room in omega (arith, a, b);
         swapchains = let a = room.swapchains in let b = c.remove_from.ensures.room in omega (arith, a, b);
       };
     }
@@ -62,14 +59,13 @@ invariant_of-self-in_default c =
     let room = c.self.invariant.has_room in
     record {
       sound = sound_same (kept_of s) (record { rows = c.remove.new.self.map; used = s.used; owned = s.owned.sets.map; spare = s.room }) same refl c.self.invariant.sound;
-      indexed = indexed_same s.rows.map c.remove.new.self.map (ids_of s.kinds.tables) (ids_of s.kinds.tables) (count_of s.children.counts.map) (count_of s.children.counts.map)
-          s.bytes s.count same (λ kind. refl) refl c.self.invariant.indexed;
+      indexed = indexed_same s.rows.map c.remove.new.self.map (count_of s.children.counts.map) (count_of s.children.counts.map)
+          s.bytes s.count same refl c.self.invariant.indexed;
       grouped = grouped_same s.rows.map c.remove.new.self.map (is_member s.owned.sets.map) (is_member s.owned.sets.map) (is_member s.resting.sets.map) (is_member s.resting.sets.map)
           (count_of s.swapchains.counts.map) (count_of s.swapchains.counts.map) same refl refl refl c.self.invariant.grouped;
       has_room = record {
         rows = let a = room.rows in let b = c.in_default.ensures.spare in omega (arith, a, b);
         used = room.used;
-        kinds = room.kinds;
         children = room.children;
         swapchains = room.swapchains;
       };

@@ -1,7 +1,6 @@
 use Rattle.std.proofs.Common.{refl, ap, ◌∙◌, arith}
 use Rattle.gfx_table.specs.Groups.{is_member}
 use Rattle.gfx_objects.specs.Inside.{kept_of}
-use Rattle.gfx_objects.specs.Kinds.{ids_of}
 use Rattle.gfx_objects.specs.Children.{count_of}
 use Rattle.gfx_objects.specs.Objects.{answers}
 use Rattle.gfx_objects.proofs.Kept.{sound_same, indexed_same}
@@ -27,14 +26,13 @@ invariant_of-self-in_default c =
     let room = c.self.invariant.has_room in
     record {
       sound = sound_same (kept_of s) (record { rows = n.rows.map; used = n.used; owned = c.reserve.new.self.sets.map; spare = s.room }) e.rows e.used c.self.invariant.sound;
-      indexed = indexed_same s.rows.map n.rows.map (ids_of s.kinds.tables) (ids_of n.kinds.tables) (count_of s.children.counts.map) (count_of n.children.counts.map)
-          s.bytes s.count e.rows e.kinds e.children c.self.invariant.indexed;
+      indexed = indexed_same s.rows.map n.rows.map (count_of s.children.counts.map) (count_of n.children.counts.map)
+          s.bytes s.count e.rows e.children c.self.invariant.indexed;
       grouped = grouped_same s.rows.map n.rows.map (is_member s.owned.sets.map) (is_member c.reserve.new.self.sets.map) (is_member s.resting.sets.map) (is_member s.resting.sets.map)
           (count_of s.swapchains.counts.map) (count_of n.swapchains.counts.map) e.rows c.reserve.ensures.same refl e.swapchains c.self.invariant.grouped;
       has_room = record {
         rows = let a = room.rows in let b = e.rows_room in omega (arith, a, b);
         used = let a = room.used in let b = e.used_room in omega (arith, a, b);
-        kinds = λ kind. let a = room.kinds kind in let b = e.kinds_room kind in omega (arith, a, b);
         children = let a = room.children in let b = e.children_room in omega (arith, a, b);
         swapchains = let a = room.swapchains in let b = e.swapchains_room in omega (arith, a, b);
       };
@@ -55,11 +53,11 @@ invariant_of-self-2 c =
     let n = c.reserve_each.new in
     record {
       sound = sound_same (kept_of s) (record { rows = n.rows.map; used = n.used; owned = c.reserve.new.self.sets.map; spare = c.max-room.result }) e.rows e.used c.self.invariant.sound;
-      indexed = indexed_same s.rows.map n.rows.map (ids_of s.kinds.tables) (ids_of n.kinds.tables) (count_of s.children.counts.map) (count_of n.children.counts.map)
-          s.bytes s.count e.rows e.kinds e.children c.self.invariant.indexed;
+      indexed = indexed_same s.rows.map n.rows.map (count_of s.children.counts.map) (count_of n.children.counts.map)
+          s.bytes s.count e.rows e.children c.self.invariant.indexed;
       grouped = grouped_same s.rows.map n.rows.map (is_member s.owned.sets.map) (is_member c.reserve.new.self.sets.map) (is_member s.resting.sets.map) (is_member s.resting.sets.map)
           (count_of s.swapchains.counts.map) (count_of n.swapchains.counts.map) e.rows c.reserve.ensures.same refl e.swapchains c.self.invariant.grouped;
-      has_room = record { rows = made.rows_made; used = made.used_made; kinds = made.kinds_made; children = made.children_made; swapchains = made.swapchains_made };
+      has_room = record { rows = made.rows_made; used = made.used_made; children = made.children_made; swapchains = made.swapchains_made };
     }
 
 pub returns-clause-same : goal.returns-clause-same

@@ -8,7 +8,6 @@ use Rattle.gfx_objects.specs.declared.object.Object.{Object}
 use Rattle.gfx_objects.specs.Object.{detail_of, memory_of, is_within}
 use Rattle.gfx_objects.specs.Objects.{RestsIn}
 use Rattle.gfx_objects.specs.Inside.{kept_of}
-use Rattle.gfx_objects.specs.Kinds.{ids_of}
 use Rattle.gfx_objects.specs.Children.{is_at, count_of}
 use Rattle.gfx_objects.proofs.Kept.{sound_changed, indexed_changed}
 use Rattle.gfx_objects.proofs.Grouped.{grouped_changed}
@@ -37,8 +36,8 @@ invariant_of-self-2 c =
             same_kind = old.same_kind ∙ ap kind_of (sym c.requires.parameters);
             within = ap is_within c.requires.parameters ∙ old.within;
           }) c.requires.parameters (λ b is. subst (λ k. RestsIn k (detail_of c.args.detail) b) (sym c.self.view_is) (c.requires.rests b is)) c.self.invariant.sound;
-      indexed = indexed_changed s.rows.map c.set.new.self.map (ids_of s.kinds.tables) (count_of s.children.counts.map) s.bytes s.count c.args.id
-          o n c.set.ensures.map some refl refl bytes c.self.invariant.indexed;
+      indexed = indexed_changed s.rows.map c.set.new.self.map (count_of s.children.counts.map) s.bytes s.count c.args.id
+          o n c.set.ensures.map some refl bytes c.self.invariant.indexed;
       grouped = grouped_changed s.rows.map c.set.new.self.map (is_member s.owned.sets.map) (is_member s.owned.sets.map) (is_member s.resting.sets.map) (is_member c.move_to.new.groups.sets.map)
           (count_of s.swapchains.counts.map) (count_of s.swapchains.counts.map) c.args.id o c.self.invariant.grouped n c.set.ensures.map some refl c.requires.parameters
           (λ g x. c.move_to.ensures g x
@@ -47,7 +46,6 @@ invariant_of-self-2 c =
       has_room = record {
         rows = let a = c.self.invariant.has_room.rows in let b = c.set.ensures.kept (rw some refl) in omega (arith, a, b);
         used = c.self.invariant.has_room.used;
-        kinds = c.self.invariant.has_room.kinds;
         children = c.self.invariant.has_room.children;
         swapchains = c.self.invariant.has_room.swapchains;
       };

@@ -7,7 +7,6 @@ use Rattle.gfx_model.specs.Questions.{Binding}
 use Rattle.gfx_model.specs.Views.{detail_bytes}
 use Rattle.gfx_objects.specs.Object.{memory_of, is_within}
 use Rattle.gfx_objects.specs.Inside.{kept_of}
-use Rattle.gfx_objects.specs.Kinds.{ids_of}
 use Rattle.gfx_objects.specs.Children.{count_of}
 use Rattle.gfx_objects.proofs.Kept.{sound_changed, indexed_changed}
 use Rattle.gfx_objects.proofs.Grouped.{stays_under, grouped_changed}
@@ -32,15 +31,14 @@ invariant_of-self c =
             same_kind = old.same_kind ∙ ap kind_of (sym c.requires.parameters);
             within = ap is_within c.requires.parameters ∙ old.within;
           }) c.requires.parameters (still_rests (kept_of s) c.self.invariant.sound c.args.id o some c.args.detail c.requires.parameters c.requires.bound) c.self.invariant.sound;
-      indexed = indexed_changed s.rows.map c.set.new.self.map (ids_of s.kinds.tables) (count_of s.children.counts.map) s.bytes s.count c.args.id
-          o n c.set.ensures.map some refl refl bytes c.self.invariant.indexed;
+      indexed = indexed_changed s.rows.map c.set.new.self.map (count_of s.children.counts.map) s.bytes s.count c.args.id
+          o n c.set.ensures.map some refl bytes c.self.invariant.indexed;
       grouped = grouped_changed s.rows.map c.set.new.self.map (is_member s.owned.sets.map) (is_member s.owned.sets.map) (is_member s.resting.sets.map) (is_member s.resting.sets.map)
           (count_of s.swapchains.counts.map) (count_of s.swapchains.counts.map) c.args.id o c.self.invariant.grouped n c.set.ensures.map some refl c.requires.parameters
           (stays_under (λ o. memory_of o.detail) s.rows.map c.args.id (is_member s.resting.sets.map) c.self.invariant.grouped.by_memory o n some same) refl refl;
       has_room = record {
         rows = let a = c.self.invariant.has_room.rows in let b = c.set.ensures.kept (rw some refl) in omega (arith, a, b);
         used = c.self.invariant.has_room.used;
-        kinds = c.self.invariant.has_room.kinds;
         children = c.self.invariant.has_room.children;
         swapchains = c.self.invariant.has_room.swapchains;
       };

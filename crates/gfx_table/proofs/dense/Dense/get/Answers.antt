@@ -1,9 +1,6 @@
-use Rattle.std.proofs.Common.{rules, ◌≡◌, ◌≤◌, ◌<◌, ◌+◌, ◌-◌, List, length, slice_get, slice_set, option_and_then, is_some, Some, None, refl, sym, ap, ◌∙◌, arith}
-use Rattle.std.specs.Option.{option_copied}
+use Rattle.std.proofs.Common.{slice_get, option_and_then, sym, ap, ◌∙◌}
 use Rattle.std.specs.FinMap as map
-use Rattle.std.proofs.lemmas.Option.{slice_get_within}
-use Rattle.gfx_table.specs.Dense.{is_listed, rows_of}
-use Rattle.gfx_table.proofs.Densing.{item_at, get-rows_of, start, listed_some, set_row, push_row, moved, remove_row, all_listed, none_placed_in, less_placed}
+use Rattle.gfx_table.proofs.Densing.{item_at, get-rows_of}
 use Rattle.gfx_table.proofs.dense.Dense.get.Goals as goal
 
 pub returns-in-Some : goal.returns-in-Some

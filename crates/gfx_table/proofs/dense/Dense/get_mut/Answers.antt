@@ -1,9 +1,6 @@
-use Rattle.std.proofs.Common.{IsSome, subst, inl, ◌≡◌, ◌≤◌, ◌<◌, ◌+◌, ◌-◌, List, length, slice_get, slice_set, option_and_then, is_some, Some, None, refl, sym, ap, ◌∙◌, arith, length-set}
-use Rattle.std.specs.Option.{option_copied}
-use Rattle.std.specs.FinMap as map
+use Rattle.std.proofs.Common.{inl, ◌-◌, length, slice_get, option_and_then, refl, sym, ap, ◌∙◌, arith, length-set}
 use Rattle.std.proofs.lemmas.Option.{slice_get_within, slice_get_read}
-use Rattle.gfx_table.specs.Dense.{is_listed, rows_of}
-use Rattle.gfx_table.proofs.Densing.{item_at, get-rows_of, start, listed_some, set_row, push_row, moved, remove_row, all_listed, none_placed_in, less_placed}
+use Rattle.gfx_table.proofs.Densing.{get-rows_of, set_row}
 use Rattle.std.specs.Prelude.{min}
 use Rattle.gfx_table.proofs.dense.Dense.get_mut.Goals as goal
 

@@ -1,9 +1,4 @@
-use Rattle.std.proofs.Common.{rules, ◌≡◌, ◌≤◌, ◌<◌, ◌+◌, ◌-◌, List, length, slice_get, slice_set, option_and_then, is_some, Some, None, refl, sym, ap, ◌∙◌, arith}
-use Rattle.std.specs.Option.{option_copied}
-use Rattle.std.specs.FinMap as map
-use Rattle.std.proofs.lemmas.Option.{slice_get_within}
-use Rattle.gfx_table.specs.Dense.{is_listed, rows_of}
-use Rattle.gfx_table.proofs.Densing.{get-rows_of, start, listed_some, set_row, push_row, moved, remove_row, all_listed, none_placed_in, less_placed}
+use Rattle.gfx_table.proofs.Densing.{start}
 use Rattle.gfx_table.proofs.dense.Dense.new.Goals as goal
 
 pub invariant_of-result : goal.invariant_of-result

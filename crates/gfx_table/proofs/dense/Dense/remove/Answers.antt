@@ -1,9 +1,8 @@
-use Rattle.std.proofs.Common.{IsSome, subst, inl, ◌≡◌, ◌≤◌, ◌<◌, ◌+◌, ◌-◌, List, length, slice_get, slice_set, option_and_then, is_some, Some, None, refl, sym, ap, ◌∙◌, arith, length-set}
-use Rattle.std.specs.Option.{option_copied}
+use Rattle.std.proofs.Common.{length, slice_get, option_and_then, refl, sym, ap, ◌∙◌, arith}
 use Rattle.std.specs.FinMap as map
 use Rattle.std.proofs.lemmas.Option.{slice_get_within, slice_get_read}
-use Rattle.gfx_table.specs.Dense.{is_listed, rows_of}
-use Rattle.gfx_table.proofs.Densing.{still_placed, remove_missing, item_at, get-rows_of, start, listed_some, set_row, push_row, moved, remove_row, all_listed, none_placed_in, less_placed}
+use Rattle.gfx_table.specs.Dense.{rows_of}
+use Rattle.gfx_table.proofs.Densing.{still_placed, remove_missing, get-rows_of, moved, remove_row}
 use Rattle.gfx_table.proofs.dense.Dense.remove.Goals as goal
 
 pub invariant_of-self : goal.invariant_of-self

@@ -1,9 +1,7 @@
-use Rattle.std.proofs.Common.{rules, ◌≡◌, IsSome, subst, ◌≤◌, ◌<◌, ◌+◌, ◌-◌, List, length, slice_get, slice_set, option_and_then, is_some, Some, None, refl, sym, ap, ◌∙◌, arith}
-use Rattle.std.specs.Option.{option_copied}
+use Rattle.std.proofs.Common.{◌≡◌, IsSome, subst, length, slice_get, option_and_then, sym, ap, ◌∙◌, arith}
 use Rattle.std.specs.FinMap as map
 use Rattle.std.proofs.lemmas.Option.{slice_get_within}
-use Rattle.gfx_table.specs.Dense.{is_listed, rows_of}
-use Rattle.gfx_table.proofs.Densing.{get-rows_of, start, listed_some, set_row, push_row, moved, remove_row, all_listed, none_placed_in, less_placed}
+use Rattle.gfx_table.proofs.Densing.{get-rows_of, set_row, push_row}
 use Rattle.gfx_table.proofs.dense.Dense.set.Goals as goal
 
 pub index_mut-requires : goal.index_mut-requires

@@ -1,10 +1,8 @@
-use Rattle.std.proofs.Common.{ℕ, IsSome, subst, ◌≡◌, ◌≤◌, ◌+◌, false, List, [], length, is_some, Some, None, refl, sym, ap, ◌∙◌, arith}
+use Rattle.std.proofs.Common.{ℕ, length, is_some, refl, sym, ap, ◌∙◌}
 use Rattle.std.specs.FinMap as map
-use Rattle.std.specs.FinMap.{get-empty}
-use Rattle.std.specs.Ordering.{nat_cmp}
 use Rattle.gfx_table.specs.Dense.{is_listed}
 use Rattle.gfx_table.proofs.Densing.{nothing_of, is_zero}
-use Rattle.gfx_table.proofs.Grouping.{some_copied, kept, spared, no_members, closed, one_more, one_less, as_before, room_less, room_more, room_there, last_less, none_in}
+use Rattle.gfx_table.proofs.Grouping.{one_less, last_less, none_in}
 use Rattle.gfx_table.proofs.groups.Groups.remove.Goals as goal
 
 pub returns-in_default : goal.returns-in_default
@@ -13,7 +11,7 @@ returns-in_default c = none_in c.args.self.now.sets.map c.args.group c.args.id (
 pub returns-then-is_empty : goal.returns-then-is_empty
 returns-then-is_empty c =
     let nothing = nothing_of c.ids.result.now (is_zero (length c.ids.result.now) (sym c.if-is_empty.ensures)) in
-    let none = λ (x : ℕ). sym (ap (λ m. is_some (map.get m x)) c.remove-member.ensures.map) ∙ sym (c.ids.ensures x) ∙ ap (is_listed x) nothing in
+    let none = λ (x : ℕ). sym (ap (λ m. is_some (map.get m x)) c.remove-member.ensures.map) ∙ sym (c.ids.ensures.all x) ∙ ap (is_listed x) nothing in
     last_less c.args.self.now.sets.map c.remove-set.new.self.map c.args.group c.in-Some.set.now c.args.id (sym c.in-Some.ensures.value) none c.remove-member.new.self c.remove-set.ensures.map
 
 pub returns-else-is_empty : goal.returns-else-is_empty

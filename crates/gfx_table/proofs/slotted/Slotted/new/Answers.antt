@@ -1,4 +1,4 @@
-use Rattle.std.proofs.Common.{ap, ◌∙◌}
+use Rattle.std.proofs.Common.{ap}
 use Rattle.gfx_table.specs.Slotted.{filled}
 use Rattle.gfx_table.proofs.Joining.{joined_empty}
 use Rattle.gfx_table.proofs.slotted.Slotted.new.Goals as goal

@@ -1,37 +1,45 @@
-use Rattle.std.proofs.Common.{ap, sym, ◌∙◌}
+use Rattle.std.proofs.Common.{refl, ap, subst, ◌∙◌}
 use Rattle.std.specs.FinMap as map
 use Rattle.gfx_table.specs.Joined.{joined}
-use Rattle.gfx_table.specs.Slotted.{filled}
-use Rattle.gfx_table.proofs.Slotting.{got_slotted, clear_slot, clear_rest}
+use Rattle.gfx_table.specs.Slotted.{IsInGroup, filled}
+use Rattle.gfx_table.proofs.Slotting.{got_there, got_rest, clear_slot, clear_rest}
 use Rattle.gfx_table.proofs.slotted.Slotted.remove.Goals as goal
 
 pub invariant_of-self : goal.invariant_of-self
 invariant_of-self g c =
-    (clear_slot c.self.inside.mask c.self.inside.slots.items c.self.inside.rest.map c.slot_of-slot.result c.args.id c.in-Some.row c.self.invariant c.slot_of-slot.ensures (sym (c.in-Some.ensures ∙ (rw c.deref.ensures.value at c.in_slot.ensures)))).0
+    let none = rw c.deref.ensures.value at (c.in_default.ensures.none refl) in
+    rw c.remove.ensures.map (clear_rest c.self.inside.mask c.self.inside.displaced c.self.inside.slots.items c.self.inside.rest.map c.first_of.result c.args.id c.self.invariant c.first_of.ensures none).0
 
-pub invariant_of-self-in-None : goal.invariant_of-self-in-None
-invariant_of-self-in-None g c =
-    rw c.remove.ensures.map
-    (clear_rest c.self.inside.mask c.self.inside.slots.items c.self.inside.rest.map c.slot_of-slot.result c.args.id c.self.invariant c.slot_of-slot.ensures (sym (c.in-None.ensures ∙ (rw c.deref.ensures.value at c.in_slot.ensures)))).0
-
-pub returns-in-Some-clause-value : goal.returns-in-Some-clause-value
-returns-in-Some-clause-value g c =
-    got_slotted c.self.inside.mask c.self.inside.slots.items c.self.inside.rest.map c.self.invariant c.args.id c.slot_of-slot.result c.slot_of-slot.ensures _ (c.in-Some.ensures ∙ (rw c.deref.ensures.value at c.in_slot.ensures))
+pub returns-in_default-clause-value : goal.returns-in_default-clause-value
+returns-in_default-clause-value g c =
+    let none = rw c.deref.ensures.value at (c.in_default.ensures.none refl) in
+    c.remove.ensures.value
+    ∙ got_rest c.self.inside.mask c.self.inside.displaced c.self.inside.slots.items c.self.inside.rest.map c.self.invariant c.first_of.result c.args.id c.first_of.ensures none
     ∙ ap (λ s. map.get s.map c.args.id) c.self.view_is
 
-pub returns-in-Some-clause-map : goal.returns-in-Some-clause-map
-returns-in-Some-clause-map g c =
-    (clear_slot c.self.inside.mask c.self.inside.slots.items c.self.inside.rest.map c.slot_of-slot.result c.args.id c.in-Some.row c.self.invariant c.slot_of-slot.ensures (sym (c.in-Some.ensures ∙ (rw c.deref.ensures.value at c.in_slot.ensures)))).1
+pub returns-in_default-clause-map : goal.returns-in_default-clause-map
+returns-in_default-clause-map g c =
+    let none = rw c.deref.ensures.value at (c.in_default.ensures.none refl) in
+    ap (joined (filled c.self.inside.slots.items)) c.remove.ensures.map
+    ∙ (clear_rest c.self.inside.mask c.self.inside.displaced c.self.inside.slots.items c.self.inside.rest.map c.first_of.result c.args.id c.self.invariant c.first_of.ensures none).1
     ∙ ap (λ s. map.remove s.map c.args.id) c.self.view_is
 
-pub returns-in-None-clause-value : goal.returns-in-None-clause-value
-returns-in-None-clause-value g c =
-    c.remove.ensures.value
-    ∙ got_slotted c.self.inside.mask c.self.inside.slots.items c.self.inside.rest.map c.self.invariant c.args.id c.slot_of-slot.result c.slot_of-slot.ensures _ (c.in-None.ensures ∙ (rw c.deref.ensures.value at c.in_slot.ensures))
+pub invariant_of-self-2 : goal.invariant_of-self-2
+invariant_of-self-2 g c =
+    let here = rw c.deref.ensures.value at c.in-Some.ensures.here in
+    let within = subst (λ first. IsInGroup first c.in-Some.slot) c.first_of.ensures c.in-Some.ensures.inside in
+    (clear_slot c.self.inside.mask c.self.inside.displaced c.self.inside.slots.items c.self.inside.rest.map c.in-Some.slot c.args.id c.self.invariant here within).0
+
+pub returns-clause-value : goal.returns-clause-value
+returns-clause-value g c =
+    let here = rw c.deref.ensures.value at c.in-Some.ensures.here in
+    c.copied-row.ensures ∙ (rw c.deref-2.ensures.value at c.in_slot.ensures)
+    ∙ got_there c.self.inside.mask c.self.inside.displaced c.self.inside.slots.items c.self.inside.rest.map c.self.invariant c.in-Some.slot c.args.id here
     ∙ ap (λ s. map.get s.map c.args.id) c.self.view_is
 
-pub returns-in-None-clause-map : goal.returns-in-None-clause-map
-returns-in-None-clause-map g c =
-    ap (joined (filled c.self.inside.slots.items)) c.remove.ensures.map
-    ∙ (clear_rest c.self.inside.mask c.self.inside.slots.items c.self.inside.rest.map c.slot_of-slot.result c.args.id c.self.invariant c.slot_of-slot.ensures (sym (c.in-None.ensures ∙ (rw c.deref.ensures.value at c.in_slot.ensures)))).1
+pub returns-clause-map : goal.returns-clause-map
+returns-clause-map g c =
+    let here = rw c.deref.ensures.value at c.in-Some.ensures.here in
+    let within = subst (λ first. IsInGroup first c.in-Some.slot) c.first_of.ensures c.in-Some.ensures.inside in
+    (clear_slot c.self.inside.mask c.self.inside.displaced c.self.inside.slots.items c.self.inside.rest.map c.in-Some.slot c.args.id c.self.invariant here within).1
     ∙ ap (λ s. map.remove s.map c.args.id) c.self.view_is

@@ -9,7 +9,7 @@ invariant_of-self-2 c =
     let r = answers_of s.registry in
     let b = buffers s.recordings in
     let now = buffers c.reset_each.new.recordings in
-    let told = owned_told r b now s.next_frame s.is_empty s.section s.plain c.args.pool c.owned.result.now c.owned.ensures c.reset_each.ensures in
+    let told = owned_told r b now s.next_frame s.is_empty s.section s.plain c.args.pool c.owned.result.now c.owned.ensures.all c.reset_each.ensures in
     record { plain = pool_plain r b now s.next_frame s.is_empty s.section s.plain c.args.pool told }
 
 pub returns : goal.returns
@@ -18,5 +18,5 @@ returns c =
     let r = answers_of s.registry in
     let b = buffers s.recordings in
     let now = buffers c.reset_each.new.recordings in
-    let told = owned_told r b now s.next_frame s.is_empty s.section s.plain c.args.pool c.owned.result.now c.owned.ensures c.reset_each.ensures in
+    let told = owned_told r b now s.next_frame s.is_empty s.section s.plain c.args.pool c.owned.result.now c.owned.ensures.all c.reset_each.ensures in
     pool_gathered r b now s.next_frame s.is_empty s.section s.plain c.args.pool told
