@@ -54,7 +54,9 @@ fn digest_asked<S: Source>(
     ensures later { S.faults source.old ≤ S.faults source.new }
 {
     let mut player = Player::open(alloc, source)?;
-    digest_opened(alloc, asked, piece, &mut player, source)
+    let digested = digest_opened(alloc, asked, piece, &mut player, source);
+    drop(player);
+    digested
 }
 
 // The loop only borrows the player: each exit of an owner lets go of it field by field, which takes long to prove.

@@ -37,7 +37,9 @@ pub fn digests<R: Threads + Sync, S: Source, K: Sink>(
 {
     let player = Player::open(alloc, source)?;
     let mut walk = Walk::new(alloc, player);
-    walk.run(rt, source, sink)
+    let ran = walk.run(rt, source, sink);
+    drop(walk);
+    ran
 }
 
 /// A file that is read, replayed and shown group by group.

@@ -51,7 +51,9 @@ fn lean_range<S: Source, K: Sink>(
     ensures later { (S.faults source.old ≤ S.faults source.new) × (K.faults sink.old ≤ K.faults sink.new) }
 {
     let mut player = Player::open(alloc, source)?;
-    lean_opened(alloc, first, last, &mut player, source, sink)
+    let leaned = lean_opened(alloc, first, last, &mut player, source, sink);
+    drop(player);
+    leaned
 }
 
 // The same, where a player has read the header. It is lent: each way out of a function that owns it would drop it.

@@ -28,7 +28,9 @@ pub fn show_frames<S: Source, K: Sink>(
     ensures later { (S.faults source.old ≤ S.faults source.new) × (K.faults sink.old ≤ K.faults sink.new) }
 {
     let mut player = Player::open(alloc, source)?;
-    show_opened(alloc, asked, pixels, &mut player, source, sink)
+    let shown = show_opened(alloc, asked, pixels, &mut player, source, sink);
+    drop(player);
+    shown
 }
 
 // The loop only borrows the player: each exit of an owner lets go of it field by field, which takes long to prove.

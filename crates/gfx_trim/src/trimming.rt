@@ -48,7 +48,9 @@ fn cut_range<S: Source, K: Sink>(
     ensures later { (S.faults source.old ≤ S.faults source.new) × (K.faults sink.old ≤ K.faults sink.new) }
 {
     let mut player = Player::open(alloc, source)?;
-    cut_opened(alloc, first, last, &mut player, source, sink)
+    let cut = cut_opened(alloc, first, last, &mut player, source, sink);
+    drop(player);
+    cut
 }
 
 // The loop only borrows the player: each exit of an owner lets go of it field by field, which takes long to prove.

@@ -8,8 +8,8 @@ returns-in_err-player-clause-told g c =
     let p = err_from_is_err_and c.from_residual.result c.from_residual.ensures.1 in
     rw (p.1, p.2) (hashing_stops c.args.asked [] _ _ _ refl c.in_err-player.ensures.stopped)
 
-pub digest_opened-requires : goal.digest_opened-requires
-digest_opened-requires g c = record { space = c.requires.space; plays = (_, c.in_ok-player.ensures.plays) }
+pub digest_opened-digested-requires : goal.digest_opened-digested-requires
+digest_opened-digested-requires g c = record { space = c.requires.space; plays = (_, c.in_ok-player.ensures.plays) }
 
 pub returns-clause-told : goal.returns-clause-told
-returns-clause-told g c = c.digest_opened.ensures.told _ c.in_ok-player.ensures.plays
+returns-clause-told g c = c.digest_opened-digested.ensures.told _ c.in_ok-player.ensures.plays

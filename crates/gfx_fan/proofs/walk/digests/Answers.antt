@@ -21,8 +21,8 @@ started : (p q : Player) (k : Album) (file left taken : Option (List ℕ)) → q
 started p q k file left taken same plays all listing count bare =
     gathered_none q k file left taken (subst (λ p. Plays p [] file left) (sym same) plays) all (listing ∙ ap (λ p. plain p.minor) (sym same)) count bare
 
-pub run-requires : goal.run-requires
-run-requires g c =
+pub run-ran-requires : goal.run-ran-requires
+run-ran-requires g c =
     let of = c.new-walk.ensures in (
       c.type_bounds.sync-R,
       (
@@ -33,4 +33,4 @@ run-requires g c =
 
 pub returns-clause-told : goal.returns-clause-told
 returns-clause-told g c =
-    let of = c.new-walk.ensures in c.run.ensures.told _ (started _ _ _ _ _ _ of.player c.in_ok-player.ensures.plays of.asked of.listing of.count of.bare)
+    let of = c.new-walk.ensures in c.run-ran.ensures.told _ (started _ _ _ _ _ _ of.player c.in_ok-player.ensures.plays of.asked of.listing of.count of.bare)

@@ -9,12 +9,12 @@ returns-in_err-player-clause-told g c =
     rw (p.1, p.2)
     (open_fails c.args.first c.args.last c.in_err-player.field-0.0 _ _ taken c.requires.ordered c.in_err-player.ensures.err)
 
-pub cut_opened-requires : goal.cut_opened-requires
-cut_opened-requires g c = record {
+pub cut_opened-cut-requires : goal.cut_opened-cut-requires
+cut_opened-cut-requires g c = record {
   ordered = c.requires.ordered;
   replayed = c.in_ok-player.ensures.replayed;
   read = (_, c.in_ok-player.ensures.read);
 }
 
 pub returns-clause-told : goal.returns-clause-told
-returns-clause-told g c = c.cut_opened.ensures.told _ c.in_ok-player.ensures.read
+returns-clause-told g c = c.cut_opened-cut.ensures.told _ c.in_ok-player.ensures.read
