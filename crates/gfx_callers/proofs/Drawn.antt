@@ -21,8 +21,3 @@ one_drawn ids drawn x is there y pos = dite (ℕ_discrete x y)
 -- no id needs to be drawn
 pub none_drawn : (ids drawn : List ℕ) → ids ≡ [] → AreAmong ids drawn
 none_drawn ids drawn is y pos = absurd (let at : 0 < times y [] = subst (λ l. 0 < times y l) is pos in omega arith)
-
--- one more that creates none
-pub none_more : (es more : List Event) (e : Event) → more ≡ es ++ e ∷ [] → named_ids es ≡ [] → event_ids e ≡ [] → named_ids more ≡ []
-none_more es more e is none here = subst (λ l. named_ids l ≡ []) (sym is)
-    (flat_map-append event_ids es (e ∷ []) ∙ subst (λ (l : List ℕ). l ++ (event_ids e ++ []) ≡ []) (sym none) (subst (λ (l : List ℕ). l ++ [] ≡ []) (sym here) refl))

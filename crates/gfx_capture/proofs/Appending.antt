@@ -81,6 +81,3 @@ module _ (m : ℕ) (events : List Event) (can : AllByRecursion (CanBePut m) even
         by (block.Refused f) one = (less, refl, one.0 ∙ stand, (next, got, subst (λ l. IsFaulty m t l next f) (sym one.0) one.1))
         by (block.LogFull l wanted) one = (less, one.0 ∙ stand, (next, got, subst (λ z. IsFull m t z next l wanted) (sym one.0) one.1))
         by block.WantMemory one = (less, one ∙ stand)
-
-pub all_stand : (before log : List Entry) (t n : ℕ) (events : List Event) → Stand before t events n log → n ≡ length events → Stand before t events (length events) log
-all_stand before log t n events stand all = stand ∙ ap (λ k. before ++ entries_under t (take k events)) all

@@ -140,24 +140,9 @@ module _ (m n : ℕ) (bytes : List ℕ) (v : View) (is : IsLog m n bytes v) wher
   )
   refused t one apply.WantMemory w after room took same e put = same
 
--- after a refusal the answers are as they were
-pub unmoved : (m : ℕ) (one : List ℕ) (v w : View) (f : ApplyFault) → Took m one v (Err f) w → w ≡ v
-unmoved m one v w (apply.Rule f) took = took.0
-unmoved m one v w apply.WantMemory took = took
-
 -- and the bytes
 pub cut_back : (bytes one new cut : List ℕ) (n : ℕ) → new ≡ bytes ++ one → cut ≡ take n new → n ≡ length bytes → cut ≡ bytes
 cut_back bytes one new cut n grown is from = is ∙ ap (take n) grown ∙ take_at bytes one n (sym from)
-
--- what a tracker answers is what was asked of it
-pub taken : (m : ℕ) (one : List ℕ) (v w : View) (found : Event) → ((e : Event) → IsPutOf m e one → found ≡ e) → None ≡ first_broken v (checks_of found) → w ≡ after_event v found
-    → Took m one v (Ok tt) w
-taken m one v w found is none next e put = (ap (λ x. first_broken v (checks_of x)) (sym (is e put)) ∙ sym none, next ∙ ap (after_event v) (is e put))
-
-pub not_taken : (m : ℕ) (one : List ℕ) (v w : View) (f : ApplyFault) (found : Event) → ((e : Event) → IsPutOf m e one → found ≡ e) → rule_of f ≡ first_broken v (checks_of found) → w ≡ v
-    → Took m one v (Err f) w
-not_taken m one v w (apply.Rule f) found is rule same = (same, λ e put. ap (λ x. first_broken v (checks_of x)) (sym (is e put)) ∙ sym rule)
-not_taken m one v w apply.WantMemory found is rule same = same
 
 -- ---- the same, of a log as contracts see it
 
@@ -177,9 +162,6 @@ module _ (m n : ℕ) (bytes : List ℕ) (v : View) (is : IsLog m n bytes v) (old
       subst (λ (z : Logged). AnswersOne z.minor z.entries t e (Err r) (entries_in m n (drop 16 cut))) seen
       (subst (λ (z : BlockFault). AnswersOne m (entries_in m n (drop 16 bytes)) t e (Err z) (entries_in m n (drop 16 cut))) (sym r-is)
       (refused m n bytes v is t one f w (entries_in m n (drop 16 cut)) room took (ap (λ l. entries_in m n (drop 16 l)) same) e (back e put)))
-
-  pub there : IsPut old.minor one → IsPut m one
-  there put = (put.0, back put.0 put.1)
 
   pub put_is_long : IsPut old.minor one → 24 ≤ length one
   put_is_long put = put_long m put.0 one (back put.0 put.1)

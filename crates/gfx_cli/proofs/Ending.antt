@@ -69,21 +69,6 @@ sink_of play.WantMemory is = absurd cc
 
 -- ---- `info`
 
--- the file was not counted, and nothing was written
-pub info_fails : (taken : Option (List ℕ)) (why : DecodeFault) (all rest : List ℕ) → CountsAll (Err why) all rest
-    → Stops Info taken taken (of_decoder why) all rest
-info_fails taken (decoder.Bad fault block offset) all rest end = (end, appends_none taken)
-info_fails taken decoder.ReadFault all rest (fed, is) =
-    record {
-      reads = tt;
-      read = is.given;
-      parts = is.parts;
-      going = subst (λ ws. IsUnfinished ws is.given) (sym is.blocks) is.cut;
-      text = appends_none taken;
-      front = inl (appends_none taken);
-    }
-info_fails taken decoder.WantMemory all rest end = inl (appends_none taken)
-
 -- the lines that were written are those of the file's counts
 counted_text : (counts : Counts) (all rest : List ℕ) → CountsAll (Ok counts) all rest → count_lines counts.minor counts.blocks counts.calls counts.frames ≡ info_text all
 counted_text counts all rest (are, end, none) =
@@ -96,34 +81,6 @@ info_done counts before after all rest told text = record { good = told.1; leave
 pub info_part : (counts : Counts) (before after : Option (List ℕ)) (all rest : List ℕ) → CountsAll (Ok counts) all rest
     → AppendsPart before after (count_lines counts.minor counts.blocks counts.calls counts.frames) → AppendsPart before after (info_text all)
 info_part counts before after all rest told text = subst (AppendsPart before after) (counted_text counts all rest told) text
-
--- ---- `replay`
-
-pub replay_fails : (why : PlayFault) (pixels : Bool) (frames : Option FrameRange) (before after : Option (List ℕ)) (all rest : List ℕ)
-    → Answers (asked_by frames) pixels before after (Err why) all rest → Stops (Replay pixels frames) before after (of_play why) all rest
-replay_fails (play.Bad fault block offset) pixels frames before after all rest is = ((is.end, is.unseen), is.text)
-replay_fails (play.NoSuchFrame first last) pixels frames before after all rest is =
-    (record { range = is.range; end = is.end; unseen = is.unseen; first_is = is.first_is; last_is = is.last_is }, is.text, is.read)
-replay_fails play.ReadFault pixels frames before after all rest is = record { reads = tt; read = is.given; parts = is.parts; going = (is.cut, is.lawful, is.unseen); text = is.text; front = inr is.front }
-replay_fails play.SinkFault pixels frames before after all rest is = is
-replay_fails play.WantMemory pixels frames before after all rest is = inr is
-
-pub replay_done : (pixels : Bool) (frames : Option FrameRange) (before after : Option (List ℕ)) (all rest : List ℕ)
-    → Answers (asked_by frames) pixels before after (Ok tt) all rest → IsDone (Replay pixels frames) before after all rest
-replay_done pixels frames before after all rest is = record { good = is.0.complete; leaves = is.1; text = is.0.text }
-
--- ---- `trim`
-
-pub trim_fails : (why : PlayFault) (r : FrameRange) (before after : Option (List ℕ)) (all rest : List ℕ)
-    → trim.Answers r.first r.last before after (Err why) all rest → Stops (Trim r) before after (of_play why) all rest
-trim_fails (play.Bad wrong block offset) r before after all rest is = ((is.end, is.outside), is.file)
-trim_fails (play.NoSuchFrame first last) r before after all rest is = (record { end = is.end; outside = is.outside; first_is = is.low_is; last_is = is.high_is }, is.file, is.read)
-trim_fails play.ReadFault r before after all rest is = record { reads = tt; read = is.given; parts = is.parts; going = (is.cut, is.lawful, is.outside); text = is.file; front = inr is.front }
-trim_fails play.SinkFault r before after all rest is = is
-trim_fails play.WantMemory r before after all rest is = inr is
-
-pub trim_done : (r : FrameRange) (before after : Option (List ℕ)) (all rest : List ℕ) → trim.Answers r.first r.last before after (Ok tt) all rest → IsDone (Trim r) before after all rest
-trim_done r before after all rest is = record { good = is.inside; leaves = is.behind; text = subst (Appends before after) (sym is.all) is.file }
 
 -- ---- `lean`
 
@@ -146,33 +103,6 @@ lean_fails play.ReadFault r before after all rest is =
 lean_fails play.SinkFault r before after all rest is = lean_part r before after all is
 lean_fails play.WantMemory r before after all rest (inl none) = inl (none_taken before after none)
 lean_fails play.WantMemory r before after all rest (inr is) = inr (lean_part r before after all is)
-
-pub lean_done : (r : FrameRange) (before after : Option (List ℕ)) (all rest : List ℕ) → lean.Answers r.first r.last before after (Ok tt) all rest → IsDone (Lean r) before after all rest
-lean_done r before after all rest is = record { good = is.inside; leaves = is.behind; text = (is.out, is.took, is.lean) }
-
--- ---- `upgrade`
-
-pub upgrade_fails : (why : PlayFault) (before after : Option (List ℕ)) (all rest : List ℕ) → upgrade.Answers before after (Err why) all rest → Stops Upgrade before after (of_play why) all rest
-upgrade_fails (play.Bad fault block offset) before after all rest is = (is.end, is.text)
-upgrade_fails (play.NoSuchFrame first last) before after all rest is = absurd is
-upgrade_fails play.ReadFault before after all rest is = record { reads = tt; read = is.given; parts = is.parts; going = is.cut; text = is.text; front = inr is.front }
-upgrade_fails play.SinkFault before after all rest is = is
-upgrade_fails play.WantMemory before after all rest is = inr is
-
-pub upgrade_done : (before after : Option (List ℕ)) (all rest : List ℕ) → upgrade.Answers before after (Ok tt) all rest → IsDone Upgrade before after all rest
-upgrade_done before after all rest is = record { good = is.clean_end; leaves = is.read; text = is.text }
-
--- ---- `list`
-
-pub list_fails : (why : PlayFault) (before after : Option (List ℕ)) (all rest : List ℕ) → list.Answers before after (Err why) all rest → Stops Lists before after (of_play why) all rest
-list_fails (play.Bad fault block offset) before after all rest is = (is.end, is.text)
-list_fails (play.NoSuchFrame first last) before after all rest is = absurd is
-list_fails play.ReadFault before after all rest is = record { reads = tt; read = is.given; parts = is.parts; going = is.cut; text = is.text; front = inr is.front }
-list_fails play.SinkFault before after all rest is = is
-list_fails play.WantMemory before after all rest is = inr is
-
-pub list_done : (before after : Option (List ℕ)) (all rest : List ℕ) → list.Answers before after (Ok tt) all rest → IsDone Lists before after all rest
-list_done before after all rest is = record { good = is.clean_end; leaves = is.read; text = is.text }
 
 -- ---- `unlist`
 

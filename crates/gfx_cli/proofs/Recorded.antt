@@ -23,10 +23,6 @@ use Rattle.gfx_words.specs.Commands.{FitsFrames}
 use Rattle.gfx_cli.specs.Captures.{Ends, IsRun, IsWhole, Lacks, Took, TookFront, written_of}
 use Rattle.gfx_cli.specs.Commands.{asked_by}
 
-pub ordered : (frames : Option FrameRange) → FitsFrames frames → IsOrdered (asked_by frames)
-ordered None fits = tt
-ordered (Some r) fits = fits.ordered
-
 -- what stopped a run before all its calls were accepted
 abbrev Halts : RecordingFault → ℕ → List (List Part) → List Entry → Type 0
 Halts (CallRefused line fault at) m phases log = IsRefusedAt m phases log line fault at

@@ -219,18 +219,3 @@ module _ (uses : FinMap nat_cmp Use) (agrees : Bool) (named : List ℕ) (asks : 
         gone_both layout b a (index.enough layout (grind (arith, m)) (from_each now (gone u b a) is (suits_at layout) h here.1)) here.0;
     left = λ layout y. ap (λ f. f y) (layouts_after-append layout asks (goes x b a ∷ [])) ∙ gone_left layout b a now is y;
   }
-
--- ---- images behind commands that meet their layouts
-
--- what is known of the layout of an image is so
-pub known_index : (uses : FinMap nat_cmp Use) (agrees : Bool) (named : List ℕ) (asks : List Layouts) → IsIndex uses agrees named asks
-    → (layout : ℕ → ℕ) → meets layout asks ≡ true → (x : ℕ) → layouts_after layout asks x ≡ unwrap_or (known (use_of uses x)) (layout x)
-known_index uses agrees named asks index layout met x = index.left layout x ∙ told (use_of uses x) (layout x) ((index.met layout met).1 x)
-  where
-    told : (u : Use) (now : ℕ) → suits u.wanted now ≡ true → unwrap_or u.left now ≡ unwrap_or (known u) now
-    told u now suit = cases u.left u.wanted refl refl
-      where
-        cases : (left wanted : Option ℕ) → u.left ≡ left → u.wanted ≡ wanted → unwrap_or u.left now ≡ unwrap_or (known u) now
-        cases None None a b = grind (arith, nat_tests, a, b, suit)
-        cases None (Some w) a b = grind (arith, nat_tests, a, b, suit)
-        cases (Some k) wanted a b = grind (arith, nat_tests, a, b, suit)

@@ -21,11 +21,6 @@ found_among [] i r is = cc
 found_among (x ∷ xs) zero r is = let same : x ≡ r = cc in grind (arith, nat_tests, same)
 found_among (x ∷ xs) (suc i) r is = let rest = found_among xs i r is in grind (arith, rest)
 
-pub none_past : (xs : List ℕ) (i : ℕ) → None ≡ slice_get xs i → i < length xs → ⊥
-none_past [] i is there = omega (arith, there)
-none_past (x ∷ xs) zero is there = cc
-none_past (x ∷ xs) (suc i) is there = none_past xs i is (omega (arith, there))
-
 pub among_more : (xs : List ℕ) (i r x : ℕ) → Some r ≡ slice_get xs i → is_among x (take (i + 1) xs) ≡ (is_among x (take i xs) || (r == x))
 among_more xs i r x is =
     let at = found_at xs i r is in

@@ -120,11 +120,6 @@ breaks_payload m at kind size bytes payload rest fault h is room none because =
 
 -- ---- what a decoder answers
 
-pub at_end : (old new : Option (List ℕ)) → Consumes old new [] → IsAtEnd new → IsAtEnd old
-at_end None new reads ends = tt
-at_end (Some bytes) None reads ends = absurd reads
-at_end (Some bytes) (Some rest) reads ends = reads ∙ ends
-
 pub gives_end : (stage : Stage) (m : ℕ) (at : Position) (old new : Option (List ℕ)) → stage ≡ At m at → Consumes old new [] → IsAtEnd new → IfTold old new (Gives stage (Ok None))
 gives_end stage m at None new place reads ends = tt
 gives_end stage m at (Some bytes) None place reads ends = absurd reads

@@ -35,15 +35,6 @@ start_stops None new start fault reads long is = tt
 start_stops (Some bytes) None start fault reads long is = absurd reads
 start_stops (Some bytes) (Some rest) start fault reads long is = ap header_fault reads ∙ header_fault-start start rest fault long is
 
--- the input ends in the options
-pub options_cut : (count : ℕ) (old new : Option (List ℕ)) (got : List ℕ) → Consumes old new got → IsAtEnd new → length got < 8 * count
-    → IfSome old (λ rest. refuse (nat_lt (length rest) (8 * count)) Truncated (options_fault rest 0 0 count) ≡ Some Truncated)
-options_cut count None new got reads ends short = tt
-options_cut count (Some bytes) None got reads ends short = absurd reads
-options_cut count (Some bytes) (Some rest) got reads ends short =
-    let same : bytes ≡ got = reads ∙ ap (λ (xs : List ℕ). got ++ xs) ends ∙ append-nil got in
-    refuse-true (nat_lt (length bytes) (8 * count)) Truncated _ (lt-ltb (length bytes) (8 * count) (omega (arith, ap length same)))
-
 -- whole options that break a step
 pub options_break : (count : ℕ) (old new : Option (List ℕ)) (options : List ℕ) (fault : Fault) → Consumes old new options → length options ≡ 8 * count
     → options_fault options 0 0 count ≡ Some fault

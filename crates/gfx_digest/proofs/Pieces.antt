@@ -26,19 +26,6 @@ piece_more before all at count buffer piece fits is = append_assoc before (take 
 abbrev pub places_bytes : Bytes → List ShownPicture → List ℕ
 places_bytes places ps = flat_map (λ (p : ShownPicture). bytes_of places p.place) ps
 
-take-one : (ps : List ShownPicture) (i : ℕ) (d : ShownPicture) → i < length ps → take i ps ++ get_or ps i d ∷ [] ≡ take (i + 1) ps
-take-one ps i d below = ap (λ l. take i ps ++ take 1 l) (sym (drop-cons ps i d below)) ∙ sym (take-add i 1 ps)
-
--- one image more, behind what was hashed before
-pub image_more : (places : Bytes) (before : List ℕ) (ps : List ShownPicture) (i : ℕ) (d : ShownPicture) → i < length ps →
-    (before ++ places_bytes places (take i ps)) ++ bytes_of places (get_or ps i d).place ≡ before ++ places_bytes places (take (i + 1) ps)
-image_more places before ps i d below =
-    let f = λ (p : ShownPicture). bytes_of places p.place in
-    append_assoc before (places_bytes places (take i ps)) (f (get_or ps i d))
-    ∙ ap (λ l. before ++ (places_bytes places (take i ps) ++ l)) (sym (append-nil (f (get_or ps i d))))
-    ∙ ap (λ l. before ++ l) (sym (flat_map-append f (take i ps) (get_or ps i d ∷ [])))
-    ∙ ap (λ l. before ++ places_bytes places l) (take-one ps i d below)
-
 images_are : (places : Bytes) (ps : List ShownPicture) → places_bytes places ps ≡ flat_map (λ p. p.pixels) (map (picture_of places) ps)
 images_are places [] = refl
 images_are places (p ∷ ps) = ap (λ l. bytes_of places p.place ++ l) (images_are places ps)

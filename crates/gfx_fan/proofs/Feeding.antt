@@ -94,10 +94,3 @@ replay_writes (play.NoSuchFrame first last) kind is = kind
 replay_writes play.ReadFault kind is = kind
 replay_writes play.SinkFault kind is = kind
 replay_writes play.WantMemory kind is = cc
-
-pub feed_reads : (why : PlayFault) → IsFeedFault why → why ≢ play.ReadFault
-feed_reads (play.Bad fault block offset) kind is = cc
-feed_reads (play.NoSuchFrame first last) kind is = kind
-feed_reads play.ReadFault kind is = kind
-feed_reads play.SinkFault kind is = cc
-feed_reads play.WantMemory kind is = cc

@@ -301,15 +301,6 @@ says_at m bytes (f ∷ places) (c ∷ blocks) (suc n) (suc i) b same below is =
     let more = says_at m bytes places blocks n i b rest (omega (arith, below)) is in
     record { here = more.here; later = more.later; parts = more.parts; says = more.says }
 
--- as many blocks were decoded as there are places, at most
-pub few_decoded : (m : ℕ) (bytes : List ℕ) (places : List Framed) (blocks : List Block) (n : ℕ) → map (said m bytes) (take n places) ≡ map (λ (b : Block). Some (content_of b)) blocks → length blocks ≤ length places
-few_decoded m bytes places [] n same = omega arith
-few_decoded m bytes places (c ∷ blocks) zero same = absurd cc
-few_decoded m bytes [] (c ∷ blocks) (suc n) same = absurd cc
-few_decoded m bytes (f ∷ places) (c ∷ blocks) (suc n) same =
-    let rest : map (said m bytes) (take n places) ≡ map (λ (b : Block). Some (content_of b)) blocks = cc in
-    omega (arith, few_decoded m bytes places blocks n rest)
-
 drop_next : {X : Type 0} (xs : List X) (i : ℕ) (x : X) (later : List X) → drop i xs ≡ x ∷ later → drop (i + 1) xs ≡ later
 drop_next [] zero x later is = absurd cc
 drop_next [] (suc i) x later is = absurd cc

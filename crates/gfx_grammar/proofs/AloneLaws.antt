@@ -63,12 +63,6 @@ front-found m at bytes w is =
     (found m at (take n bytes) (drop n bytes) w (subst (λ (xs : List ℕ). IsWhole m at xs w) (sym parts) h)
     (length-take-le n bytes h.payload_there ∙ ap (λ (xs : List ℕ). 12 + size_field xs) (sym parts)))
 
--- a whole block is one by itself
-pub front-alone : (m : ℕ) (at : Position) (bytes : List ℕ) (w : Whole) → front m at bytes ≡ Finds w → front m at w.bytes ≡ Finds w
-front-alone m at bytes w is =
-    let h = front-found m at bytes w is in
-    ap (front m at) (sym (append-nil w.bytes)) ∙ block-front m at w.bytes [] w.content h.block h.counted ∙ ap Finds (sym h.here)
-
 -- and whatever follows it
 pub front-append : (m : ℕ) (at : Position) (bytes rest : List ℕ) (w : Whole) → front m at bytes ≡ Finds w → front m at (w.bytes ++ rest) ≡ Finds w
 front-append m at bytes rest w is =

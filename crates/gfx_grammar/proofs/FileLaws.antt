@@ -53,14 +53,6 @@ file_is_read m made ws version can are room =
 
 -- ---- its room
 
--- the blocks of a file are blocks by themselves
-pub splits-blocks : (m : ℕ) (at : Position) (bytes : List ℕ) (ws : List Whole) (end : End) → Splits m at bytes ws end → AllByRecursion (λ w. IsBlock m w.bytes w.content) ws
-splits-blocks m at bytes [] end is = tt
-splits-blocks m at bytes (w ∷ ws) end is = (is.3, splits-blocks m (next_position at w.bytes) is.0 ws end is.5)
-
-pub blocks_from-blocks : (m : ℕ) (at : Position) (bytes : List ℕ) → AllByRecursion (λ w. IsBlock m w.bytes w.content) (blocks_from m at bytes).items
-blocks_from-blocks m at bytes = splits-blocks m at bytes (blocks_from m at bytes).items (blocks_from m at bytes).end (splits_in_one_way m at bytes).0
-
 made-unmarked : (m : ℕ) (made : List Event) → AllByRecursion (CanBeWritten m 0) made → AllByRecursion IsUnmarked made → AllByRecursion (λ p. is_marker 2 p.bytes ≡ false) (map (made_part m) made)
 made-unmarked m [] can none = tt
 made-unmarked m (e ∷ es) can none = ((encoding-says m 0 e can.0).1 ∙ none.0.1, made-unmarked m es can.1 none.1)

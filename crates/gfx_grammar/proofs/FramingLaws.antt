@@ -60,10 +60,6 @@ cut_short a size n b short = grind (arith, nat_tests)
 pub marks-cut : (mark kind size : ℕ) (rest : List ℕ) → length rest < size → marks mark kind size rest ≡ false
 marks-cut mark kind size rest short = cut_short (nat_eq kind 2) size (length rest) (nat_eq (u32_at rest 0) mark) short
 
--- only a block of type 2 with twelve bytes of payload is a marker
-pub marks-other_type : (mark kind size : ℕ) (rest : List ℕ) → nat_eq kind 2 ≡ false → marks mark kind size rest ≡ false
-marks-other_type mark kind size rest other = ap (λ b. b && nat_eq size 12 && nat_le 12 (length rest) && nat_eq (u32_at rest 0) mark) other
-
 second_false : (a b c d : Bool) → b ≡ false → (a && b && c && d) ≡ false
 second_false true b c d other = ap (λ b. b && c && d) other
 second_false false b c d other = refl

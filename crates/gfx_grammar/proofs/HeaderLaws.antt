@@ -132,20 +132,6 @@ header_fault-options start rest there good =
     ∙ ap (λ o. refuse (nat_lt (length rest) (8 * option_count start)) Truncated o) (options_fault-behind (option_count start) 16 0 16 0 bytes refl)
     ∙ ap (λ (xs : List ℕ). refuse (nat_lt (length rest) (8 * option_count start)) Truncated (options_fault xs 0 0 (option_count start))) (drop_at start rest 16 there)
 
--- the input ends in the options
-pub header_fault-cut : (start rest : List ℕ) → length start ≡ 16 → start_fault start ≡ None → length rest < 8 * option_count start → header_fault (start ++ rest) ≡ Some Truncated
-header_fault-cut start rest there good short =
-    header_fault-options start rest there good ∙ refuse-true (nat_lt (length rest) (8 * option_count start)) Truncated _ (lt-ltb (length rest) (8 * option_count start) short)
-
--- whole options decide
-pub header_fault-whole : (start options rest : List ℕ) → length start ≡ 16 → start_fault start ≡ None → length options ≡ 8 * option_count start
-    → header_fault (start ++ (options ++ rest)) ≡ options_fault options 0 0 (option_count start)
-header_fault-whole start options rest there good long =
-    let after = options ++ rest in
-    header_fault-options start after there good
-    ∙ refuse-false (nat_lt (length after) (8 * option_count start)) Truncated _ (le-ltb (length after) (8 * option_count start) (omega (arith, length-append options rest, long)))
-    ∙ options_fault-append (option_count start) 0 0 options rest (omega (arith, long))
-
 -- ---- a whole header
 
 pub header-of_parts : (start options : List ℕ) → length start ≡ 16 → start_fault start ≡ None → length options ≡ 8 * option_count start

@@ -9,14 +9,6 @@ pub room-append : (at : Position) (ps qs : List Part) → HaveRoom at ps → Hav
 room-append at [] qs first second = second
 room-append at (p ∷ ps) qs first second = (first.0, room-append (next_position at p.bytes) ps qs first.1 second)
 
-pub place_after-append : (at : Position) (ps qs : List Part) → place_after at (ps ++ qs) ≡ place_after (place_after at ps) qs
-place_after-append at [] qs = refl
-place_after-append at (p ∷ ps) qs = place_after-append (next_position at p.bytes) ps qs
-
-pub placed-append : (at : Position) (ps qs : List Part) → placed at (ps ++ qs) ≡ placed at ps ++ placed (place_after at ps) qs
-placed-append at [] qs = refl
-placed-append at (p ∷ ps) qs = ap (λ (ws : List Whole). record { number = at.number; offset = at.offset; bytes = p.bytes; content = p.content } ∷ ws) (placed-append (next_position at p.bytes) ps qs)
-
 -- what the blocks say is what the parts say
 pub placed-says : (at : Position) (ps : List Part) → map (λ (w : Whole). w.content) (placed at ps) ≡ map (λ (p : Part). p.content) ps
 placed-says at [] = refl

@@ -37,9 +37,6 @@ live_in_place v (place.Image x) i h = live_of_kind v _ x h.0
 
 -- ---- one change in both
 
-in_cond : (P Q : ℕ → Type 0) (t : Bool) (x y z : ℕ) → y ≡ z → cond t x y ≡ cond t x z
-in_cond P Q t x y z e = ap (cond t x) e
-
 chosen_same : (t : Bool) (a b c d : ℕ) → (t ≡ true → a ≡ c) → b ≡ d → (elim t as (λ r. ℕ) [ true ↦ a | false ↦ b ]) ≡ (elim t as (λ r. ℕ) [ true ↦ c | false ↦ d ])
 chosen_same true a b c d e f = e refl
 chosen_same false a b c d e f = f

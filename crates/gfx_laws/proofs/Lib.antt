@@ -50,4 +50,3 @@ pub mod Itself
 pub mod Told
 -- ---- for the section: its fills, and what its events need
 pub mod Fills
-pub mod SectionRows

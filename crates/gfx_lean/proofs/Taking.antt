@@ -40,14 +40,6 @@ use Rattle.gfx_trim.proofs.Taking.{start_before, start_waiting}
 use Rattle.gfx_lean.specs.Leaner.{GoesOn, HasRangeOf, IsAfter, IsFollowed, IsGathering, IsOfSameRange, Takes}
 use Rattle.gfx_lean.specs.declared.leaner.Leaner.{Leaner}
 
--- a replay's fault, in the words of a follower
-pub refuses_of : (h : List Event) (w : Whole) (why : PlayFault) → IsReplayFault why → walk.Refuses h w why → Refuses h w why
-refuses_of h w (play.Bad fault block offset) kind r = r
-refuses_of h w (play.NoSuchFrame first last) kind r = absurd kind
-refuses_of h w play.ReadFault kind r = absurd kind
-refuses_of h w play.SinkFault kind r = absurd kind
-refuses_of h w play.WantMemory kind r = tt
-
 -- what stands behind one block more
 pub followed_on : (f : Follower) (fed : List Whole) (w : Whole) (number : Option ℕ) → Followed f (history_of fed) w.content number → Follows f (history_of (fed ++ w ∷ []))
 followed_on f fed w number d = subst (Follows f) (sym (history_more fed w)) d.follows

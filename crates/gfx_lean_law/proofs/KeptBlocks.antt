@@ -297,9 +297,6 @@ module _ (k : ℕ → Bool) (keep : Keep) (v : View) (es : List Change) (c : IsC
 
   -- ---- an object
 
-  abbrev events_in : Known → ℕ → ℕ → Detail → List Event
-  events_in u x parent d = object_events u x parent d
-
   object_kept : (x parent : ℕ) (d : Detail) → v.live x ≡ Some (record { parent = parent; detail = d }) → keep.id x ≡ true → k x ≡ true →
       flat_map ke (object_events s x parent d) ≡ object_events t x parent d
   object_kept x parent (an_instance api) e o on = own_stays x o _ ((refl, refl), tt)

@@ -255,21 +255,6 @@ only_token (c ∷ cs) h = by (c == 32) (and_parts (not (c == 32)) (is_without 32
     by true h more = absurd cc
     by false h more = ap (onto_first c) more
 
--- the tokens so far, one more, and those that are left
-pub one_more : {R : Type 0} (now : R → List ℕ) (tokens : List R) (token : R) (rest behind line : List ℕ) → map now tokens ++ tokens_of rest ≡ tokens_of line
-    → tokens_of rest ≡ now token ∷ tokens_of behind → map now (tokens ++ token ∷ []) ++ tokens_of behind ≡ tokens_of line
-one_more now tokens token rest behind line so_far cut =
-    ap (λ (z : List (List ℕ)). z ++ tokens_of behind) (map-append now tokens (token ∷ []))
-    ∙ append_assoc (map now tokens) (now token ∷ []) (tokens_of behind)
-    ∙ ap (λ (z : List (List ℕ)). map now tokens ++ z) (sym cut)
-    ∙ so_far
-
--- the last token
-pub last_one : {R : Type 0} (now : R → List ℕ) (tokens : List R) (token : R) (rest line : List ℕ) → map now tokens ++ tokens_of rest ≡ tokens_of line
-    → tokens_of rest ≡ now token ∷ [] → map now (tokens ++ token ∷ []) ≡ tokens_of line
-last_one now tokens token rest line so_far cut =
-    map-append now tokens (token ∷ []) ∙ ap (λ (z : List (List ℕ)). map now tokens ++ z) (sym cut) ∙ so_far
-
 -- a text has a token
 some_token : (text : List ℕ) → 1 ≤ length (tokens_of text)
 some_token [] = omega arith

@@ -65,9 +65,6 @@ some_of : {X : Type 0} (o : Option X) → is_some o ≡ true → (x : X) × (o �
 some_of None is = absurd cc
 some_of (Some x) is = (x, refl)
 
-is_some_of : {X : Type 0} (o : Option X) (x : X) → o ≡ Some x → is_some o ≡ true
-is_some_of o x is = ap is_some is
-
 -- the lines have no line feed
 read_without : (lines : List (List ℕ)) → AreRead lines → AllByRecursion (λ l. is_without 10 l ≡ true) lines
 read_without lines (inl none) = subst (AllByRecursion (λ l. is_without 10 l ≡ true)) (sym none) tt

@@ -70,31 +70,3 @@ is_there (suc n) a k low high = by (a == k) refl (λ later. is_there n (a + 1) k
     by : (b : Bool) → (a == k) ≡ b → (a + 1 ≤ k → has_frame k (shown_from (a + 1) n) ≡ true) → (b || has_frame k (shown_from (a + 1) n)) ≡ true
     by true e later = refl
     by false e later = let other = eqb-false a k e in later (omega (arith, low, other))
-
--- ---- ranges of frames that begin with frame k
-
-filter_both : (p q : ℕ → Bool) (ms : List ℕ) → filter (λ m. p m && q m) ms ≡ filter p (filter q ms)
-filter_both p q [] = refl
-filter_both p q (m ∷ ms) = by (p m) (q m) refl (filter_both p q ms)
-  where
-    by : (a b : Bool) → p m ≡ a → filter (λ m. p m && q m) ms ≡ filter p (filter q ms) →
-        cond (a && b) (m ∷ filter (λ m. p m && q m) ms) (filter (λ m. p m && q m) ms) ≡ filter p (cond b (m ∷ filter q ms) (filter q ms))
-    by true true e is = ap (λ l. m ∷ l) is ∙ sym (ap (λ c. cond c (m ∷ filter p (filter q ms)) (filter p (filter q ms))) e)
-    by false true e is = is ∙ sym (ap (λ c. cond c (m ∷ filter p (filter q ms)) (filter p (filter q ms))) e)
-    by true false e is = is
-    by false false e is = is
-
--- those of the range are all from its first to its last
-pub asked_shown : (n k first last : ℕ) → k ≤ first → first ≤ last → last < k + n →
-    filter (λ (f : Frame). nat_le k first && nat_le first f.number && nat_le f.number last) (shown_from k n) ≡ shown_from first (last + 1 - first)
-asked_shown n k first last low ordered high =
-    ap (λ b. filter (λ (f : Frame). b && nat_le first f.number && nat_le f.number last) (shown_from k n)) (le-leb k first low)
-    ∙ numbers_kept (λ m. nat_le first m && nat_le m last) (range_with_len k n)
-    ∙ ap (map shown_frame) (filter_both (λ m. nat_le first m) (λ m. nat_le m last) (range_with_len k n)
-    ∙ ap (filter (λ m. nat_le first m)) (up_to last n k (last + 1 - k) (omega (arith, high)) (omega (arith, low, ordered)))
-    ∙ from_on first (first - k) (last + 1 - k) k (last + 1 - first) (omega (arith, low)) (omega (arith, low, ordered)))
-
--- and its last is among them
-pub last_shown : (n k first last : ℕ) → k ≤ first → first ≤ last → last < k + n → list_any (λ (f : Frame). nat_le k first && f.number == last) (shown_from k n) ≡ true
-last_shown n k first last low ordered high =
-    ap (λ b. list_any (λ (f : Frame). b && f.number == last) (shown_from k n)) (le-leb k first low) ∙ is_there n k last (omega (arith, low, ordered)) high

@@ -16,10 +16,6 @@ rows image a n = map changes (map (λ k. copy (place.Image image) (k * 2560) (pl
 abbrev pub Bytes : Type 0
 Bytes = Place → ℕ → ℕ
 
--- the bytes after them
-abbrev after_rows : Bytes → (image a n : ℕ) → Bytes
-after_rows f image a n = fold bytes_step f (rows image a n)
-
 -- and after row a alone
 abbrev after_row : Bytes → (image a : ℕ) → Bytes
 after_row f image a = bytes_step f (changes (copy (place.Image image) (a * 2560) (place.Memory 8) (a * 2560) 2560))

@@ -11,7 +11,6 @@ pub mod Stand
 pub mod Steps
 pub mod Covered
 pub mod CoveredTurns
-pub mod FirstBroken
 pub mod Lists
 pub mod Following
 pub mod Cutting

@@ -79,9 +79,6 @@ names_resources cb (e ∷ cs) y some own c = by (contains_split (resources_of e)
 
 -- ---- what is bound, and under which window
 
-memory_there : (m : ℕ) (w : Window) → w.place ≡ place.Memory m → Contains (memory_of w.place) m
-memory_there m w is = subst (λ p. Contains (memory_of p) m) (sym is) (contains_here m [])
-
 -- the memory of a window is that of the binding
 bound_memory : (v : View) (n y : ℕ) (o : Option Binding) → Contains (option_map_or (λ w. memory_of w.place) (bound_window v n o) []) y →
     (b : Binding) × (o ≡ Some b) × (b.memory ≡ y) × (is_live v kind.Memory b.memory ≡ true) × (is_some (bound_window v n o) ≡ true)

@@ -9,18 +9,6 @@ use Rattle.gfx_lean_law.proofs.Contained.{contains_before, contains_behind, cont
 use Rattle.gfx_needed.specs.NeededIds.{Marks, is_marked, is_there}
 use Rattle.gfx_needed.specs.declared.needed.NeededIds.{NeededIds}
 
--- nothing to mark
-pub marks_none : (v : View) (n : NeededIds) → Marks v [] n n
-marks_none v n = record {
-  stays = λ x e. e;
-  all = λ x c live. absurd (contains_none x c);
-  only = λ x e. inl e;
-  waits = λ x c. c;
-  added = λ x e. inl e;
-  pending = λ x c. inl c;
-  less = omega arith;
-}
-
 -- some ids, and then others
 pub marks_then : (v : View) (xs ys : List ℕ) (a b c : NeededIds) → Marks v xs a b → Marks v ys b c → Marks v (xs ++ ys) a c
 marks_then v xs ys a b c m n = record {
@@ -43,22 +31,6 @@ marks_then v xs ys a b c m n = record {
 }
 
 -- ---- one id
-
--- an id that is marked, or isn't live
-pub marks_same : (v : View) (x : ℕ) (n : NeededIds) → (is_marked n x ≡ true) ⊎ (is_there v x ≡ false) → Marks v (x ∷ []) n n
-marks_same v x n why = record {
-  stays = λ y e. e;
-  all = λ y c live. by y (contains_one x y c) live why;
-  only = λ y e. inl e;
-  waits = λ y c. c;
-  added = λ y e. inl e;
-  pending = λ y c. inl c;
-  less = omega arith;
-}
-  where
-    by : (y : ℕ) → x ≡ y → is_there v y ≡ true → (is_marked n x ≡ true) ⊎ (is_there v x ≡ false) → is_marked n y ≡ true
-    by y same live (inl e) = ap (is_marked n) (sym same) ∙ e
-    by y same live (inr e) = absurd (both_ways (is_there v x) e (ap (is_there v) same ∙ live))
 
 abbrev one : Bool → ℕ
 one t = cond t 1 0

@@ -20,16 +20,6 @@ use Rattle.gfx_needed.specs.declared.needed.NeededIds.{NeededIds}
 use Rattle.gfx_needed.proofs.Naming.{named_ids}
 use Rattle.gfx_needed.proofs.Trackers.{leads_on, stood_on}
 
--- nothing is marked
-pub searched_none : (v : View) (n : NeededIds) → ((x : ℕ) → is_marked n x ≡ true → ⊥) → n.pending.items ≡ [] → IsSearched v [] n
-searched_none v n none nothing = record {
-  named = λ x live c. absurd (contains_none x c);
-  needed = λ x e. absurd (none x e);
-  live = λ x e. absurd (none x e);
-  pending = λ x c. absurd (contains_none x (subst (λ l. Contains l x) nothing c));
-  closed = λ x e. absurd (none x e);
-}
-
 -- ---- one event more
 
 names_more : (range : List Event) (e : Event) → named_in (range ++ e ∷ []) ≡ named_in range ++ (uses_of 2 e ++ defines_of 2 e)

@@ -39,9 +39,6 @@ still_ok (Err e) P Q p f = tt
 
 -- the images of a swapchain are those of the same live objects
 module _ (v w : View) (same : SameObjects v w) where
-  pub images_same : (x : ℕ) → images_in v x ≡ images_in w x
-  images_same x = ap (λ (live : ℕ → Option Object). option_map_or (λ o. detail_images o.detail) (live x) 0) same.live
-
   pub fetched_same : (x : ℕ) → fetched v x ≡ fetched w x
   fetched_same x =
       ap (λ (live : ℕ → Option Object). flat_map (λ k. filter (λ y. passes (λ o. o.parent == x && has_index k o.detail) (live y)) v.ids)

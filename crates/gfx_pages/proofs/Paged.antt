@@ -75,10 +75,6 @@ rest-paged s q r n ps qs e f m some le = rw (f, e, m) (zeros-rest-paged s q r so
 pub rest-bytes : (s q r n : ℕ) (ps qs : List Page) → ps ≡ replicate q (Absent s) → qs ≡ ps ++ Absent r ∷ [] → n ≡ s * q + r → flat_map page_bytes qs ≡ replicate n 0
 rest-bytes s q r n ps qs e f m = rw (f, e, m) (zeros-rest-bytes s q r)
 
--- the start of page i, and its size
-pub page_start : (s : ℕ) (ps : List Page) (n i : ℕ) → WellPaged s ps n → i < length ps → length (flat_map page_bytes (take i ps)) ≡ s * i
-page_start s ps n i w h = w.starts i h
-
 -- the place of a byte is a page that is there
 pub page_there : (s : ℕ) (ps : List Page) (n at : ℕ) → 0 < s → WellPaged s ps n → at < n → at / s < length ps
 page_there s ps n at p w h = let c = w.cover in grind arith

@@ -17,18 +17,6 @@ regroup : {X : Type 0} (front : List X) (x : X) (read : Option (List X × List �
 regroup {X} front x (Some y) = ap (λ (xs : List X). Some (xs, y.1)) (simp append_assoc)
 regroup front x None = refl
 
-nothing_before : {X : Type 0} (read : Option (List X × List ℕ)) → with_front [] read ≡ read
-nothing_before (Some y) = refl
-nothing_before None = refl
-
--- behind the number of its items nothing of the list was read
-pub list_starts : {X : Type 0} (r : Reader X) (bytes behind : List ℕ) (count : ℕ) → read_number w32 bytes ≡ Some (count, behind)
-    → Continues r [] (count - 0) behind (read_list r bytes)
-unfolding read_list
-list_starts r bytes behind count is =
-    let same : count - 0 ≡ count = omega arith in
-    rw (is, same) (nothing_before (read_items r count behind))
-
 -- one item more was read
 pub list_goes_on : {X : Type 0} (r : Reader X) (front : List X) (count i : ℕ) (bytes after : List ℕ) (x : X) (total : Option (List X × List ℕ)) → i < count → r bytes ≡ Some (x, after)
     → Continues r front (count - i) bytes total → Continues r (front ++ x ∷ []) (count - (i + 1)) after total

@@ -67,7 +67,3 @@ read_through fed w stage all rest f = record {
   blocks = ap (λ (b : Blocks). b.items) (fed_with fed w stage all rest f);
   parts = f.parts;
 }
-
--- the next of them
-pub next_comes : (old new : Stage) (w : Whole) (left rest : List ℕ) → ComesNext old new w → left ≡ w.bytes ++ rest → coming old left ≡ with_item w (coming new rest)
-next_comes old new w left rest comes took = ap (coming old) took ∙ comes rest

@@ -316,13 +316,6 @@ decoder_kind (decoder.Bad fault block offset) = tt
 decoder_kind decoder.ReadFault = tt
 decoder_kind decoder.WantMemory = tt
 
-pub replay_kind : (why : PlayFault) → IsReplayFault why → IsWalkFault why
-replay_kind (play.Bad fault block offset) kind = tt
-replay_kind (play.NoSuchFrame first last) kind = absurd kind
-replay_kind play.ReadFault kind = absurd kind
-replay_kind play.SinkFault kind = absurd kind
-replay_kind play.WantMemory kind = tt
-
 -- ---- what the decoder answers
 
 pub not_fresh : (stage : Stage) → IsBehind 0 stage → stage ≢ Fresh

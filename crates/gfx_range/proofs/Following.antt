@@ -20,10 +20,6 @@ use Rattle.gfx_player.proofs.Walking.{first_more}
 use Rattle.gfx_range.specs.Follower.{Followed, Follows}
 use Rattle.gfx_range.specs.declared.follower.Follower.{Follower}
 
--- a block that is skipped
-pub skipped_one : (f : Follower) (h : List Event) → Follows f h → Followed f h skipped None
-skipped_one f h s = record { follows = s; fine = refl; shows = refl }
-
 module _ (old new : Follower) (h : List Event) (thread : ℕ) (e : Event) (s : Follows old h) (fine : first_broken (answers old.tracker) (checks_of e) ≡ None)
     (next : answers new.tracker ≡ after_event (answers old.tracker) e) where
   there : fault h e ≡ None

@@ -12,17 +12,6 @@ use Rattle.gfx_recorder.specs.declared.worker.Worker.{Worker}
 use Rattle.gfx_recorder.specs.Begun.{APass, new_worker}
 use Rattle.gfx_recorder.specs.Progress.{MadeOfDrawn, IsBetween, Reached, AreNew}
 
--- workers that have done nothing begin the first phase
-pub begins : (m : ℕ) (desk : TableId) (ws : List Worker) → AreNew m desk ws → Reached m desk (length ws) [] (0 ∷ []) ws
-begins m desk ws new = record {
-  pieces = [];
-  whole = tt;
-  names = refl;
-  none = refl;
-  len = refl;
-  at = new;
-}
-
 fresh-at : (m n t i : ℕ) (d : Hand Entry) → i < n → get_or (fresh_from m t n) i d ≡ fresh m (t + i)
 fresh-at m zero t i d less = absurd (omega arith)
 fresh-at m (suc n) t zero d less = let e : t ≡ t + 0 = omega arith in ap (fresh m) e

@@ -26,12 +26,6 @@ use Rattle.gfx_recorder.proofs.Threads.{lines-new, lines-old, apart-at}
 
 -- ---- one pass
 
-none-more : (h : Hand Entry) → h ≡ with_ids h []
-none-more h = ap (λ (l : List ℕ). let z : Hand Entry = record h { drawn = l } in z) (sym (append-nil h.drawn))
-
-pub drew-none : (h : Hand Entry) (table : List ℕ) → Drew 0 h table h table
-drew-none h table = record { ids = []; count_is = refl; table_is = sym (append-nil table); hand_is = none-more h; once = λ o. o }
-
 ids-more : (h : Hand Entry) (a b : List ℕ) → with_ids (with_ids h a) b ≡ with_ids h (a ++ b)
 ids-more h a b = ap (λ (l : List ℕ). let z : Hand Entry = record h { drawn = l } in z) (append_assoc h.drawn a b)
 
@@ -76,15 +70,6 @@ names-first lines i =
     let a : length (names_of (map line_of lines)) ≡ length (names_of (map line_of (take i lines))) + length (names_of (map line_of (drop i lines))) = ap (λ ls. length (names_of ls)) cut ∙ names-count (map line_of (take i lines)) (map line_of (drop i lines)) in omega arith
 
 -- ---- all passes
-
-pub all-none : (ws : List Worker) (table : List ℕ) → AllDrew [] ws table ws table
-all-none ws table = record {
-  len = refl;
-  ids = [];
-  table_is = sym (append-nil table);
-  count = refl;
-  at = λ i d less. record { desk_is = refl; buffer = refl; ids = []; hand_is = none-more (hand_of (get_or ws i d)); once = λ o. o; ids_are = λ more. refl };
-}
 
 -- the lines of a thread define no more names than all lines do
 names-within : (t : ℕ) (ps : List Part) → length (names_of (lines_in t ps)) ≤ length (names_of (phase_lines ps))

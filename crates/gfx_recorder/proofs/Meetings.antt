@@ -37,18 +37,6 @@ sees-again w w' w'' a b = record {
   before = prefix-through (hand_of w).seen (hand_of w').seen (hand_of w'').seen a.before b.before;
 }
 
-pub sees-same : (w : Worker) → SeesMore w w
-sees-same w = record { desk_is = refl; buffer = refl; same = refl; before = itself (hand_of w).seen }
-
-pub swept-none : (f : Worker) (ws : List Worker) → Swept 0 f ws f ws
-swept-none f ws = record {
-  first = sees-same f;
-  len = refl;
-  met = λ k d less. absurd (omega arith);
-  rest = λ k d h. refl;
-  still = λ all. (refl, λ k d less. absurd (omega arith));
-}
-
 module _ (f : Worker) (ws : List Worker) (f₁ : Worker) (ws₁ : List Worker) (i : ℕ) (item : Worker) (s : Swept i f ws f₁ ws₁) (less : i < length ws₁)
     (f₂ w₂ : Worker) (first : SeesMore f₁ f₂) (other : SeesMore (get_or ws₁ i item) w₂) (seen : (hand_of w₂).seen ≡ (hand_of f₂).seen)
     (longer : ((hand_of f₂).seen ≡ (hand_of f₁).seen) ⊎ ((hand_of f₂).seen ≡ (hand_of (get_or ws₁ i item)).seen)) where
@@ -88,10 +76,6 @@ module _ (f : Worker) (ws : List Worker) (f₁ : Worker) (ws₁ : List Worker) (
     still = λ all. let t = s.still all in let f-is = f-stays all t.0 in
         (f-is, λ k d h. dite (ℕ_discrete k i) (λ e. ap (λ (w : Worker). (hand_of w).seen) (now k d e) ∙ (seen ∙ f-is)) (λ e. ap (λ (w : Worker). (hand_of w).seen) (get_or-set_other ws₁ i k w₂ d e) ∙ t.1 k d (omega arith)));
   }
-
--- no workers have met
-pub none-met : Met [] []
-none-met = record { log = []; len = refl; met = λ k d less. absurd (omega arith) }
 
 -- two sweeps, and all have seen what the first had after the first one
 pub all-met : (f : Worker) (ws : List Worker) (f₁ : Worker) (ws₁ : List Worker) (f₂ : Worker) (ws₂ : List Worker) → Swept (length ws) f ws f₁ ws₁ → Swept (length ws₁) f₁ ws₁ f₂ ws₂ → Met (f ∷ ws) (f₂ ∷ ws₂)

@@ -33,12 +33,6 @@ module _ (ids : ℕ → ℕ) where
   line-at (l ∷ lines) (suc place) event at = line-at lines place event at
 
 module _ (ids : ℕ → ℕ) (lines : List Line) (w w₁ : Worker) (buffer : Buffered) (end : End) (empty : w.buffer.events ≡ []) (cleared : buffer.events ≡ []) where
-  abbrev from : Worker
-  from = record w { done = 0 }
-
-  abbrev to : Worker
-  to = record w₁ { buffer = buffer; end = end }
-
   held-first : (events : List Event) → w.buffer.events ++ events ≡ events
   held-first events = ap (λ l. l ++ events) empty
 

@@ -56,28 +56,6 @@ recorded gathers asked before after (Err ReadFault) bytes rest h = tt
 recorded gathers asked before after (Err SinkFault) bytes rest h = h
 recorded gathers asked before after (Err WantMemory) bytes rest h = inr h
 
-pub written_leaves : (asked : Asked) (before after : Option (List ℕ)) (outcome : Outcome) (result : Result Unit RecordingFault) (P : Type 0)
-    → Writes asked before after outcome result → Leaves result P
-written_leaves asked before after outcome (Ok done) P w = tt
-written_leaves asked before after outcome (Err (BadScript line kind)) P w = absurd (written_not asked before after outcome (BadScript line kind) tt w)
-written_leaves asked before after outcome (Err (CallRefused line fault at)) P w = tt
-written_leaves asked before after outcome (Err (LogFull long wanted)) P w = tt
-written_leaves asked before after outcome (Err (NoSuchFrame first last)) P w = tt
-written_leaves asked before after outcome (Err ReadFault) P w = absurd (written_not asked before after outcome ReadFault tt w)
-written_leaves asked before after outcome (Err SinkFault) P w = tt
-written_leaves asked before after outcome (Err WantMemory) P w = tt
-
--- nothing was written where the text was not read
-pub unread_records : (gathers : Bool) (asked : Asked) (taken : Option (List ℕ)) (why : RecordingFault) (bytes rest : List ℕ) → IsUnread why → Records gathers asked taken taken (Err why) bytes rest
-unread_records gathers asked taken ReadFault bytes rest un = tt
-unread_records gathers asked taken WantMemory bytes rest un = inl refl
-unread_records gathers asked taken _ bytes rest un = absurd un
-
-pub unread_leaves : (why : RecordingFault) (P : Type 0) → P → Leaves (Err why) P
-unread_leaves (BadScript line kind) P p = p
-unread_leaves ReadFault P p = p
-unread_leaves _ P p = tt
-
 -- a run that came to its end was written, but for want of memory, a frame that isn't there, or a failed write
 pub done_unstopped : (asked : Asked) (before after : Option (List ℕ)) (outcome : Outcome) (result : Result Unit RecordingFault) → IsDone outcome
     → Writes asked before after outcome result → (result ≡ Err SinkFault → ⊥) → IsUnstopped asked result

@@ -12,9 +12,6 @@ pub record AreDropped (old now : Bytes) (live : ℕ → Bool) (ids : List ℕ) :
   pub memories : (m : ℕ) → now (place.Memory m) ≡ old (place.Memory m)
   pub images : (x : ℕ) → now (place.Image x) ≡ (if is_among x ids && not (live x) then None else old (place.Image x))
 
-pub none_dropped : (old : Bytes) (live : ℕ → Bool) → AreDropped old old live []
-none_dropped old live = record { memories = λ m. refl; images = λ x. refl }
-
 module _ (old now : Bytes) (live : ℕ → Bool) (ids : List ℕ) (id : ℕ) (dropped : AreDropped old now live ids) where
   among_more : (x : ℕ) → is_among x (ids ++ id ∷ []) ≡ (is_among x ids || is_among x (id ∷ []))
   among_more x = list_any-append (λ y. y == x) ids (id ∷ [])
@@ -41,12 +38,3 @@ module _ (old now : Bytes) (live : ℕ → Bool) (ids : List ℕ) (id : ℕ) (dr
         let same : id ≡ x → live x ≡ true = λ p. rw p at alive in
         grind (arith, nat_tests, b, c, same);
   }
-
--- where all that are not live and have something are among these
-pub all_dropped : (old now : Bytes) (live : ℕ → Bool) (ids : List ℕ) → AreDropped old now live ids
-    → ((x : ℕ) → live x ≡ false → is_some (old (place.Image x)) ≡ true → is_among x ids ≡ true) → IsKept old now live
-all_dropped old now live ids dropped all (place.Memory m) = dropped.memories m
-all_dropped old now live ids dropped all (place.Image x) =
-    let a = dropped.images x in
-    let b = all x in
-    grind (arith, a, b)

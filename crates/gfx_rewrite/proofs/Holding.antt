@@ -63,11 +63,6 @@ held_failed before mid after held new all (written, took, is) (count, within, pa
   sym is ∙ ap (λ (xs : List ℕ). written ++ xs) (sym (take-append-drop count held)) ∙ sym (append_assoc written (take count held) (drop count held)),
 )
 
--- what holds anyway holds after an error
-pub on_err : {T E P : Type 0} (r : Result T E) → P → OnErr r P
-on_err (Ok x) p = tt
-on_err (Err e) p = p
-
 -- of more than is held a front was taken
 pub part_some : (before mid after : Option (List ℕ)) (held new all : List ℕ) → Held before mid held all → HeldPart mid after new held → HeldPart before after new all
 part_some before mid after held new all (written, took, is) (front, rest, (part, more, split), whole) = (

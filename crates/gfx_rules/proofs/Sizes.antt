@@ -16,12 +16,6 @@ use Rattle.gfx_model.specs.Spelling.Field.{id, u32}
 abbrev size : Field → ℕ
 size f = length (field_bytes f)
 
-long : (n : ℕ) → length (to_le_bytes w64 n) ≡ 8
-long n = refl
-
-short : (n : ℕ) → length (to_le_bytes w32 n) ≡ 4
-short n = refl
-
 -- items of one size
 each : {X : Type 0} (fields : X → List Field) (k : ℕ) → ((x : X) → sum_by size (fields x) ≡ k) → (xs : List X) → sum_by size (flat_map fields xs) ≡ k * length xs
 each fields k h [] = omega arith

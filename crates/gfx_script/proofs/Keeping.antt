@@ -44,14 +44,6 @@ unfolding id_of type_of
 kept_write m memory offset bytes h =
     spelled_is_read 1 (spelling 1 (FillMemory memory offset bytes)) (FillMemory memory offset bytes) (record { fits = write_fits m memory offset bytes h; same = refl })
 
--- what is kept is an event
-pub is_kept : (minor call : ℕ) (fields : List ℕ) → keeps_event minor call fields ≡ true → kept_event minor call fields ≡ Some (event_in minor call fields)
-is_kept minor call fields h = by (kept_event minor call fields) h
-  where
-    by : (o : Option Event) → is_some o ≡ true → o ≡ Some (unwrap_or o (BeginSection 0))
-    by (Some e) k = refl
-    by None k = absurd cc
-
 -- a call whose fields are spelled
 pub spelled_kept : (m : ℕ) (e : Event) (call : ℕ) (fields : List ℕ) → call ≡ id_of e → type_of e ≡ 4 → HasSpelling m e → fields ≡ spelling m e → kept_event m call fields ≡ Some e
 spelled_kept m e call fields id type fits same = (λ i. kept_event m (id i) (same i)) ∙ kept_call m e type fits

@@ -22,9 +22,6 @@ barrier_names xs = flat_map-map (flat_map atom_ids) barrier_atoms xs
 pub present_names : (xs : List Present) → named_by (records (presents xs)) ≡ flat_map (λ p. p.swapchain ∷ []) xs
 present_names xs = flat_map-map (flat_map atom_ids) present_atoms xs
 
-pub submit_names : (xs : List Submit) → named_by (submitted xs) ≡ flat_map (λ s. s.waits ++ s.cbs ++ s.signals) xs
-submit_names xs = refl
-
 pub buffer_region_names : (xs : List BufferRegion) → named_by (records (buffer_regions xs)) ≡ flat_map (λ _. []) xs
 buffer_region_names xs = flat_map-map (flat_map atom_ids) buffer_region_atoms xs
 

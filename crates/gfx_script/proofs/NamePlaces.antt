@@ -81,10 +81,6 @@ same_list-same (x ∷ xs) = ap (λ b. b && same_list xs xs) (let e : nat_eq x x 
 
 -- ---- places
 
--- no places without names
-pub no_places : (places : BTreeMap Key ℕ) → places.entries ≡ [] → ArePlaces [] places
-no_places places e = record { named = refl; placed = λ allowed text h. ap (λ es. allowed_at allowed [] (lookup (is_at (key_cmp (key_of text))) es)) (sym e) }
-
 abbrev all : Defined → Bool
 all d = true
 
@@ -267,10 +263,6 @@ module _ (phase thread : ℕ) where
       ∙ ap (λ o. first_of o (cond (same_list t t && true) (Some (length now + 1)) None)) (not_there (number_of (λ d. true) now t) new)
       ∙ ap (λ b. cond (b && true) (Some (length now + 1)) None) (same_list-same t)
 
-  -- nothing is defined yet
-  pub so_far_begins : (before : List Defined) (texts : List (List ℕ)) → Defined_so_far before before texts 0 []
-  so_far_begins before texts = record { names = sym (append-nil before); clash = refl; told = refl }
-
   -- one name more is defined
   pub so_far_goes_on : (before now after : List Defined) (texts : List (List ℕ)) (i : ℕ) (numbers : List ℕ) (n : ℕ) (t : List ℕ) → i < length texts → t ≡ get_or texts i []
       → Defined_so_far before now texts i numbers → is_taken now t ≡ false → after ≡ define phase thread now (t ∷ []) → n ≡ length now + 1
@@ -314,26 +306,6 @@ module _ (phase thread : ℕ) where
       drop_more (u ∷ us) zero l = refl
       drop_more (u ∷ us) (suc k) l = drop_more us k (omega arith) ∙ ap (λ n. get_or us k [] ∷ drop n (u ∷ us)) (let e : suc (k + 1) ≡ suc k + 1 = omega arith in e)
 
-  -- all names are defined
-  pub so_far_ends : (before now : List Defined) (texts : List (List ℕ)) (i : ℕ) (numbers : List ℕ) → length texts ≤ i → Defined_so_far before now texts i numbers
-      → (clashes before texts ≡ false) × (now ≡ define phase thread before texts) × (map (number_of (λ d. true) now) texts ≡ map Some numbers)
-  so_far_ends before now texts i numbers l h =
-      let all_taken : take i texts ≡ texts = take-all texts i l in
-      let none_left : drop i texts ≡ [] = drop-all texts i l in
-      (h.clash ∙ ap (clashes now) none_left, h.names ∙ ap (define phase thread before) all_taken, ap (map (number_of (λ d. true) now)) (sym all_taken) ∙ h.told)
-    where
-      take-all : (ts : List (List ℕ)) (k : ℕ) → length ts ≤ k → take k ts ≡ ts
-      take-all [] zero l = refl
-      take-all [] (suc k) l = refl
-      take-all (u ∷ us) zero l = absurd (omega arith)
-      take-all (u ∷ us) (suc k) l = ap (λ (z : List (List ℕ)). u ∷ z) (take-all us k (omega arith))
-
-      drop-all : (ts : List (List ℕ)) (k : ℕ) → length ts ≤ k → drop k ts ≡ []
-      drop-all [] zero l = refl
-      drop-all [] (suc k) l = refl
-      drop-all (u ∷ us) zero l = absurd (omega arith)
-      drop-all (u ∷ us) (suc k) l = drop-all us k (omega arith)
-
 -- ---- for the methods of `Names`
 
 module _ (items : List Definition) (places : BTreeMap Key ℕ) (text : List ℕ) (are : ArePlaces (map definition_of items) places) (name : is_name text ≡ true) where
@@ -349,12 +321,6 @@ module _ (items : List Definition) (places : BTreeMap Key ℕ) (text : List ℕ)
       ∙ are.placed (may_use phase thread) text name ∙ ap (allowed_at (may_use phase thread) (map definition_of items)) at
       ∙ ap (λ (z : Defined). cond (may_use phase thread z) (Some (i + 1)) None) (definition-at items i d (place-few i at) is)
       ∙ ap (λ c. cond c (Some (i + 1)) None) (sym within)
-
-  -- a name without a place has no number
-  pub number-none : (phase thread : ℕ) (names : List Defined) → map definition_of items ≡ names → place_of places text ≡ None → number_of (may_use phase thread) names text ≡ None
-  number-none phase thread names view at =
-      ap (λ (z : List Defined). number_of (may_use phase thread) z text) (sym view)
-      ∙ are.placed (may_use phase thread) text name ∙ ap (allowed_at (may_use phase thread) (map definition_of items)) at
 
   -- the place behind all others is that of no name
   pub place-new : (found : ℕ) → found ≡ unwrap_or (place_of places text) (length items) → found ≡ length items → place_of places text ≡ None

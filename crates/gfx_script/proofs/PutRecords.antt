@@ -8,26 +8,6 @@ module _ {X : Type 0} (named : X → List ℕ) (blank : X → X) where
   abbrev all_named : List X → List ℕ
   all_named xs = flat_map named xs
 
-  one_named : (xs : List X) (x : X) → all_named (xs ++ x ∷ []) ≡ all_named xs ++ named x
-  one_named xs x = flat_map-append named xs (x ∷ []) ∙ ap (λ (z : List ℕ). all_named xs ++ z) (append-nil (named x))
-
-  -- one record more
-  pub record_put : (done : List X) (x : X) (ids : List ℕ) (put : List X) (left : List ℕ) (y : X) (behind : List ℕ)
-      → TakesNamed (flat_map named) (map blank) done ids put left → TakesNamed named blank x left y behind
-      → TakesNamed (flat_map named) (map blank) (done ++ x ∷ []) ids (put ++ y ∷ []) behind
-  record_put done x ids put left y behind h k = record {
-    front =
-        h.front ∙ ap (λ (z : List ℕ). all_named put ++ z) k.front
-        ∙ sym (append_assoc (all_named put) (named y) behind)
-        ∙ ap (λ (z : List ℕ). z ++ behind) (sym (one_named put y));
-    as_many =
-        ap length (one_named put y) ∙ length-append (all_named put) (named y)
-        ∙ (λ i. h.as_many i + k.as_many i)
-        ∙ sym (ap length (one_named done x) ∙ length-append (all_named done) (named x));
-    others =
-        map-append blank put (y ∷ []) ∙ (λ i. h.others i ++ k.others i ∷ []) ∙ sym (map-append blank done (x ∷ []));
-  }
-
   parts : (xs : List X) (i : ℕ) (d : X) → i < length xs → xs ≡ take i xs ++ get_or xs i d ∷ drop (i + 1) xs
   parts [] i d l = absurd (omega arith)
   parts (x ∷ xs) zero d l = refl

@@ -9,10 +9,6 @@ use Rattle.gfx_text_grammar.specs.Styles.{read_name}
 use Rattle.gfx_text_grammar.proofs.StyleLaws.{name_back}
 use Rattle.gfx_script.specs.Resolved.{unknown, number_for}
 
--- a word that is no name has no number
-pub no_name : (f : ℕ → ℕ) (word : List ℕ) → is_name word ≡ false → (read_name word >>= λ n. Some (f n)) ≡ None
-no_name f word h = ap (λ b. cond b (Some (code word)) None >>= λ n. Some (f n)) h
-
 -- the number of a name
 pub name_number : (phase thread : ℕ) (names : List Defined) (word : List ℕ) (o : Option ℕ) → is_name word ≡ true → o ≡ number_of (may_use phase thread) names word
     → (read_name word >>= λ n. Some (number_for phase thread names n)) ≡ Some (unwrap_or o unknown)

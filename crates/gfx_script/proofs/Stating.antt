@@ -26,62 +26,6 @@ use Rattle.gfx_script.specs.Resolved.{unknown, is_unknown, number_for, worded_by
 use Rattle.gfx_text.specs.Renumbered.{renumbered}
 use Rattle.gfx_text.proofs.Renumbering.{events_renumbered}
 
--- ---- the ids of a statement are codes of names
-
--- 0, or the code of a name
-abbrev pub IsNumbered : ℕ → Type 0
-IsNumbered k = (nat_eq k 0 || is_code k) ≡ true
-
-code_numbered : (k : ℕ) → is_code k ≡ true → IsNumbered k
-code_numbered k h = ap (λ b. nat_eq k 0 || b) h ∙ by (nat_eq k 0)
-  where
-    by : (b : Bool) → (b || true) ≡ true
-    by true = refl
-    by false = refl
-
-ids_numbered : (xs : List ℕ) → AllByRecursion (IdFits named_ids) xs → AllByRecursion IsNumbered xs
-ids_numbered [] h = tt
-ids_numbered (x ∷ xs) h = (code_numbered x h.0, ids_numbered xs h.1)
-
-atoms_numbered : (xs : List Atom) → AllByRecursion (AtomFits named_ids) xs → AllByRecursion IsNumbered (flat_map atom_ids xs)
-atoms_numbered [] h = tt
-atoms_numbered (an_id n ∷ xs) h = (code_numbered n h.0, atoms_numbered xs h.1)
-atoms_numbered (a_wide n ∷ xs) h = atoms_numbered xs h.1
-atoms_numbered (a_short n ∷ xs) h = atoms_numbered xs h.1
-
-records_numbered : (rs : List (List Atom)) → AllByRecursion (AllByRecursion (AtomFits named_ids)) rs → AllByRecursion IsNumbered (flat_map (flat_map atom_ids) rs)
-records_numbered [] h = tt
-records_numbered (r ∷ rs) h = all_append IsNumbered (flat_map atom_ids r) (flat_map (flat_map atom_ids) rs) (atoms_numbered r h.0) (records_numbered rs h.1)
-
-submits_numbered : (ss : List Submit) → AllByRecursion (SubmitFits named_ids) ss → AllByRecursion IsNumbered (flat_map (λ s. s.waits ++ s.cbs ++ s.signals) ss)
-submits_numbered [] h = tt
-submits_numbered (s ∷ ss) h =
-    all_append IsNumbered (s.waits ++ s.cbs ++ s.signals) (flat_map (λ s. s.waits ++ s.cbs ++ s.signals) ss)
-    (all_append IsNumbered (s.waits ++ s.cbs) s.signals (all_append IsNumbered s.waits s.cbs (ids_numbered s.waits h.0.0.1) (ids_numbered s.cbs h.0.1.0.1)) (ids_numbered s.signals h.0.1.1.1))
-    (submits_numbered ss h.1)
-
-value_numbered : (v : Value) → ValueFits named_ids v → AllByRecursion IsNumbered (named_by v)
-value_numbered (names n) h = (code_numbered n h, tt)
-value_numbered (maybe n) h = (h, tt)
-value_numbered (names_each xs) h = ids_numbered xs h.1
-value_numbered (records rs) h = records_numbered (atoms_of rs) h.1
-value_numbered (submitted ss) h = submits_numbered ss h.1
-value_numbered (makes n) h = tt
-value_numbered (wide n) h = tt
-value_numbered (short n) h = tt
-value_numbered (raw n) h = tt
-value_numbered (makes_each n) h = tt
-value_numbered (shorts n) h = tt
-
-fields_numbered : (fs : List Named) → FieldsFit named_ids fs → AllByRecursion IsNumbered (flat_map (λ f. named_by f.value) fs)
-fields_numbered [] h = tt
-fields_numbered (f ∷ fs) h = all_append IsNumbered (named_by f.value) (flat_map (λ f. named_by f.value) fs) (value_numbered f.value h.0) (fields_numbered fs h.1)
-
--- what a statement uses
-pub uses_numbered : (m : ℕ) (e : Event) → FieldsFit named_ids (named_fields m e) → AllByRecursion IsNumbered (uses_of m e)
-unfolding uses_of
-uses_numbered m e h = fields_numbered (named_fields m e) h
-
 -- ---- the numbers of what it uses
 
 module _ (phase thread : ℕ) (names : List Defined) where
@@ -89,13 +33,6 @@ module _ (phase thread : ℕ) (names : List Defined) where
   pub record FindsAll (after : List Defined) : Type 0 where
     pub only : (text : List ℕ) (n : ℕ) → number_of (may_use phase thread) names text ≡ Some n → number_of (λ d. true) after text ≡ Some n
     pub small : (text : List ℕ) (n : ℕ) → number_of (may_use phase thread) names text ≡ Some n → n < unknown
-
-  zero_or : (k : ℕ) → (nat_eq k 0 ≡ true) ⊎ (nat_eq k 0 ≡ false)
-  zero_or k = by (nat_eq k 0)
-    where
-      by : (b : Bool) → (b ≡ true) ⊎ (b ≡ false)
-      by true = inl refl
-      by false = inr refl
 
   -- a name that is used is known where its number is one that a name has
   known_one : (after : List Defined) → FindsAll after → (k : ℕ) → nat_eq k 0 ≡ false

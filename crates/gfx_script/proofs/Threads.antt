@@ -29,12 +29,6 @@ digit_is c h =
 abbrev number_by : (digits plain : Bool) → ℕ → Option ℕ
 number_by digits plain n = cond ((digits && plain) && nat_lt n 64) (Some n) None
 
-plain_by : (n : ℕ) → number_by true true n ≡ thread_in n
-plain_by n = refl
-
-not_digits : (plain : Bool) (n : ℕ) → number_by false plain n ≡ None
-not_digits plain n = refl
-
 -- one digit
 pub number-one : (a : ℕ) → number_in 64 (a ∷ []) ≡ one_digit a
 unfolding number_in is_number_text

@@ -8,10 +8,6 @@ use Rattle.gfx_script_model.specs.Scripts as script
 use Rattle.gfx_script_model.specs.Scripts.{part_in_order, phase_in_order, in_order, has_thread}
 use Rattle.gfx_script.proofs.Order.{phases_pushed, parts_pushed, lines_pushed}
 
--- as many phases in either order
-pub as_many : (phases : List (List script.Part)) → length (in_order phases) ≡ length phases
-as_many phases = length-reverse (map phase_in_order phases) ∙ length-map phases phase_in_order
-
 -- a test of each item, of the list turned round
 any_turned : {X : Type 0} (p : X → Bool) (xs : List X) → list_any p (reverse xs) ≡ list_any p xs
 any_turned p [] = refl

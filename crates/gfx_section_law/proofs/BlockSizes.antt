@@ -161,10 +161,6 @@ module _ (m : ℕ) (k : Known) (orderly : IsOrderly k.answers) where
     fetch_few [] = omega arith
     fetch_few (i ∷ l) = omega arith
 
-    allocate_few : (l : List ℕ) → length (allocate_event p x l) ≤ 1
-    allocate_few [] = omega arith
-    allocate_few (i ∷ l) = omega arith
-
     pub block_few : (d : Detail) → k.answers.live x ≡ Some (record { parent = p; detail = d }) → (kind_number (kind_of d) == 8) ≡ false → length (object_events k x p d) ≤ 4100
     block_few (an_instance api) is own = omega arith
     block_few a_surface is own = omega arith

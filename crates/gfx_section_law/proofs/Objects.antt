@@ -40,9 +40,6 @@ unfolding broken
 live_ok k n c j y e l = ok _ _ (is_live_shown k n c j y e l)
 
 module _ (k : Known) (n : ℕ) (orderly : IsOrderly k.answers) (x parent : ℕ) (detail : Detail) (is : k.answers.live x ≡ Some (record { parent = parent; detail = detail })) where
-  v : View
-  v = k.answers
-
   pub there : is_among x k.answers.ids ≡ true
   there = orderly.listed x ∙ ap is_some is
 

@@ -145,9 +145,6 @@ module _ (k : Known) (n : ℕ) (orderly : IsOrderly k.answers) (done : ℕ → B
       let p = every_part k.answers orderly x parent surface images format width height usage is y (ap (passes (λ q. is_part q.detail && (x == q.parent))) m.0 ∙ eq-eqb x x refl) in
       both_ways (also x done y) (part_other y p) on))))
 
-  detail_is : (ℕ → Detail)
-  detail_is j = an_image format width height usage (Some j)
-
   fetches_are : (j : ℕ) (ys : List ℕ) → fetches (shown_answers k n created) x j ys ≡ creations k n orderly x (λ j. an_image format width height usage (Some j)) j ys
   fetches_are j [] = refl
   fetches_are j (y ∷ ys) =

@@ -182,6 +182,3 @@ pub was_dropped : (ms : List MemoryBytes) (r : MemoryBytes) (g : ℕ → Option 
     → IsDropped (stretches_byte r.stretches) g ⊎ ((stretches_byte r.stretches ≡ nothing) × (g ≡ nothing)) → IsDropped (stretches_byte r.stretches) g
 was_dropped ms r g some is rows (inl d) = d
 was_dropped ms r g some is rows (inr n) = absurd (first_held ms r some is rows n.0)
-
-pub not_empty : (n k : ℕ) (b : Bool) → b ≡ (k == 0) → b ≡ false → n ≡ k → n ≡ 0 → ⊥
-not_empty n k b e f l z = let a = eq-eqb k 0 (sym l ∙ z) in absurd (cc)

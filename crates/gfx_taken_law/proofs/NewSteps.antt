@@ -38,10 +38,6 @@ none_makes ds _ p = tt
 abbrev CreateNone : List Step → Type 0
 CreateNone ss = AllByRecursion CreatesNone ss
 
-signal_none : (t : Bool) (x : ℕ) → CreateNone (cond t (signals x ∷ []) [])
-signal_none true x = (tt, tt)
-signal_none false x = tt
-
 turn_none : (v : View) (t : Turn) → CreateNone (steps_of_turn v t)
 turn_none v (wait s) = (tt, tt)
 turn_none v (signal s) = (tt, tt)

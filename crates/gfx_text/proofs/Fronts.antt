@@ -35,18 +35,6 @@ after_is (c ∷ cs) = by (is_letter_or_digit c) (after_is cs)
     by true h = rw one-add h
     by false h = refl
 
--- ---- single bytes
-
-pub behind_is : (b c : ℕ) (text rest : List ℕ) → text ≡ c ∷ rest → c ≡ b → behind b text ≡ Some rest
-behind_is b c text rest is same = ap (behind b) is ∙ cond-true (nat_eq c b) (Some rest) None (eq-eqb c b same)
-
-pub behind_other : (b c : ℕ) (text rest : List ℕ) → text ≡ c ∷ rest → (c ≡ b → ⊥) → behind b text ≡ None
-behind_other b c text rest is other = ap (behind b) is ∙ cond-false (nat_eq c b) (Some rest) None (ne_eqb c b other)
-
-pub behind_end : (b : ℕ) (text : List ℕ) → length text ≡ 0 → behind b text ≡ None
-behind_end b [] none = refl
-behind_end b (c ∷ text) none = absurd (omega (arith, none))
-
 -- ---- fronts
 
 pub front_cut : (front text : List ℕ) → without_front front text ≡ cond (pointwise nat_eq (take (length front) text) front) (Some (drop (length front) text)) None

@@ -64,9 +64,6 @@ pub record PairsRead (most : ℕ) (front : List ℕ) (i : ℕ) (word : List ℕ)
   pub whole : most < 16 → BytesGoOn front i word
   pub broken : 16 ≤ most → bytes_of word ≡ None
 
-pub pairs_start : (word : List ℕ) → PairsRead 0 [] 0 word
-pairs_start word = record { whole = λ few. bytes_start word; broken = λ many. absurd (omega (arith, many)) }
-
 -- what the code has for the value of a digit
 abbrev pub IsValue : Option ℕ → ℕ → Type 0
 IsValue o value = MatchOption o (value ≡ 255) (λ v. (value ≡ v) × (v < 16))

@@ -17,10 +17,6 @@ regroup : {X : Type 0} (front : List X) (x : X) (read : Option (List X × List �
 regroup {X} front x (Some y) = ap (λ (xs : List X). Some (xs, y.1)) (simp append_assoc)
 regroup front x None = refl
 
-pub nothing_before : {X : Type 0} (read : Option (List X × List ℕ)) → with_front [] read ≡ read
-nothing_before (Some y) = refl
-nothing_before None = refl
-
 -- ---- behind an item
 
 more_closed : {X : Type 0} (more : Reader (List X)) (text rest : List ℕ) → behind 93 text ≡ Some rest → read_more more text ≡ Some ([], rest)
@@ -102,19 +98,6 @@ list_spent {X} r front count i text total all so_far =
 
 -- ---- a list
 
-pub list_empty : {X : Type 0} (r : Reader X) (text inside rest : List ℕ) → behind 91 text ≡ Some inside → behind 93 inside ≡ Some rest → read_list r text ≡ Some ([], rest)
-unfolding read_list
-list_empty {X} r text inside rest is closed =
-    ap (λ (o : Option (List ℕ)). o >>= λ t. read_list_end r t >>= if_few) is ∙ by inside closed
-  where
-    by : (t : List ℕ) → behind 93 t ≡ Some rest → (read_list_end r t >>= if_few) ≡ Some ([], rest)
-    by [] e = absurd cc
-    by (c ∷ t) e = cut (nat_eq c 93) e
-      where
-        cut : (b : Bool) → cond b (Some t) None ≡ Some rest → (cond b (Some ([], t)) (read_items r (suc (length t)) (c ∷ t)) >>= if_few) ≡ Some ([], rest)
-        cut true f = ap (λ (o : Option (List ℕ)). o >>= λ t. Some ([], t)) f
-        cut false f = absurd cc
-
 -- where it isn't empty, it has items
 pub list_items : {X : Type 0} (r : Reader X) (text inside : List ℕ) → behind 91 text ≡ Some inside → behind 93 inside ≡ None
     → read_list r text ≡ (read_items r (length inside) inside >>= if_few)
@@ -130,15 +113,8 @@ list_items {X} r text inside is still =
         cut true f = absurd cc
         cut false f = refl
 
-pub list_not : {X : Type 0} (r : Reader X) (text : List ℕ) → behind 91 text ≡ None → read_list r text ≡ None
-unfolding read_list
-list_not r text none = ap (λ (o : Option (List ℕ)). o >>= λ t. read_list_end r t >>= if_few) none
-
 pub few_items : {X : Type 0} (xs : List X) (rest : List ℕ) (read : Option (List X × List ℕ)) → read ≡ Some (xs, rest) → length xs < 2 ^ 32 → (read >>= if_few) ≡ Some (xs, rest)
 few_items {X} xs rest read is few = ap (λ (o : Option (List X × List ℕ)). o >>= if_few) is ∙ cond-true _ _ None (lt-ltb _ _ few)
-
-pub many_items : {X : Type 0} (xs : List X) (rest : List ℕ) (read : Option (List X × List ℕ)) → read ≡ Some (xs, rest) → 2 ^ 32 ≤ length xs → (read >>= if_few) ≡ None
-many_items {X} xs rest read is many = ap (λ (o : Option (List X × List ℕ)). o >>= if_few) is ∙ cond-false _ (Some (xs, rest)) _ (le-ltb _ _ many)
 
 -- the values as they are seen, with one more
 pub map-one_more : {X Y : Type 0} (f : X → Y) (xs : List X) (x : X) → map f (xs ++ x ∷ []) ≡ map f xs ++ f x ∷ []

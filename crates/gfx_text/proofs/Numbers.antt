@@ -15,13 +15,6 @@ abbrev pub number_from : ℕ → List ℕ → Option ℕ
 number_from n [] = Some n
 number_from n (c ∷ cs) = with_digit n c >>= λ k. number_from k cs
 
--- one digit on, and at the end
-pub digits_go_on : (word : List ℕ) (i n k digit : ℕ) → i < length word → digit ≡ get_or word i 0 → with_digit n digit ≡ Some k
-    → number_from n (drop i word) ≡ number_from k (drop (i + 1) word)
-digits_go_on word i n k digit there is read =
-    at_drop_more (number_from n) word i 0 there
-    ∙ ap (λ (o : Option ℕ). o >>= λ m. number_from m (drop (i + 1) word)) (ap (with_digit n) (sym is) ∙ read)
-
 pub digits_break : (word : List ℕ) (i n digit : ℕ) → i < length word → digit ≡ get_or word i 0 → with_digit n digit ≡ None
     → number_from n (drop i word) ≡ None
 digits_break word i n digit there is none =

@@ -20,19 +20,3 @@ pub token_unequal : {X : Type 0} (name : List ℕ) (r : Reader X) (token after :
     → named_value name r token ≡ None
 token_unequal name r token after is none =
     ap (λ (o : Option (List ℕ)). o >>= whole r) (fronts_join name (codes "=") token ∙ ap (λ (o : Option (List ℕ)). o >>= without_front (codes "=")) is ∙ ap (λ (o : Option (List ℕ)). o >>= λ t. Some t) none)
-
--- ---- the first text
-
-pub first_is : {R X : Type 0} (now : R → List ℕ) (value : List ℕ → Option X) (texts : List R) (t : R) (rest : List R) (x : X) → texts ≡ t ∷ rest → value (now t) ≡ Some x
-    → read_first value (map now texts) ≡ Some (x, map now rest)
-first_is {R} {X} now value texts t rest x is read =
-    ap (λ (ts : List R). read_first value (map now ts)) is ∙ ap (λ (o : Option X). o >>= λ x. Some (x, map now rest)) read
-
-pub first_not : {R X : Type 0} (now : R → List ℕ) (value : List ℕ → Option X) (texts : List R) (t : R) (rest : List R) → texts ≡ t ∷ rest → value (now t) ≡ None
-    → read_first value (map now texts) ≡ None
-first_not {R} {X} now value texts t rest is none =
-    ap (λ (ts : List R). read_first value (map now ts)) is ∙ ap (λ (o : Option X). o >>= λ x. Some (x, map now rest)) none
-
-pub first_missing : {R X : Type 0} (now : R → List ℕ) (value : List ℕ → Option X) (texts : List R) → length texts ≡ 0 → read_first value (map now texts) ≡ None
-first_missing now value [] none = refl
-first_missing now value (t ∷ texts) none = absurd cc

@@ -235,9 +235,6 @@ begins-append : (a b : List ℕ) → begins_item a ≡ true → begins_item (a +
 begins-append [] b h = absurd cc
 begins-append (c ∷ a) b h = h
 
-list_text-items : {X : Type 0} (t : X → List ℕ) (xs : List X) (rest : List ℕ) → list_text (map t xs) ++ rest ≡ 91 ∷ (items_text t xs ++ rest)
-list_text-items t xs rest = refl
-
 few : {X : Type 0} (xs : List X) (rest : List ℕ) → length xs < 2 ^ 32 → if_few (xs, rest) ≡ Some (xs, rest)
 few xs rest h = cond-true _ _ _ (lt-ltb _ _ h)
 

@@ -127,6 +127,3 @@ text-spelling m e h = fields_fit (named_fields m e) h
 pub spelling-text : (m : ℕ) (e : Event) → AllByRecursion FieldFits (fields_of m e) → FieldsFit numbered.ids (named_fields m e)
 unfolding fields_of
 spelling-text m e h = fit_fields (named_fields m e) h
-
-pub fits_words : (ns : List ℕ) → Fits (value_fields (shorts ns)) → ListFits (λ n. n < 2 ^ 32) ns
-fits_words ns h = fits_list (λ n. n < 2 ^ 32) word_fields (λ x p. p.0) ns h

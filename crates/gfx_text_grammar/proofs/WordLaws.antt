@@ -26,14 +26,6 @@ word-parts (c ∷ cs) = by (is_letter_or_digit c) (word-parts cs)
     by true h = ap (λ (t : List ℕ). c ∷ t) h
     by false h = refl
 
-pub word_of-all : (text : List ℕ) → list_all is_letter_or_digit (word_of text) ≡ true
-word_of-all [] = refl
-word_of-all (c ∷ cs) = by (is_letter_or_digit c) refl (word_of-all cs)
-  where
-    by : (b : Bool) → is_letter_or_digit c ≡ b → list_all is_letter_or_digit (word_of cs) ≡ true → list_all is_letter_or_digit (cond b (c ∷ word_of cs) []) ≡ true
-    by true e h = and_from _ _ e h
-    by false e h = refl
-
 pub word-all : (word rest : List ℕ) → list_all is_letter_or_digit word ≡ true → ends_word rest ≡ true → (word_of (word ++ rest) ≡ word) × (after_word (word ++ rest) ≡ rest)
 word-all [] [] all end = (refl, refl)
 word-all [] (c ∷ cs) all end = by (is_letter_or_digit c) end

@@ -112,10 +112,6 @@ content_of : (m : ℕ) (bytes : List ℕ) (c : Content) → AreBytes bytes → I
 content_of m bytes c fit h =
     read_is_content m (type_field bytes) (payload_field bytes) c (AreBytes-take (size_field bytes) (drop 12 bytes) (AreBytes-drop 12 bytes fit)) h.payload
 
-pub same_bytes : (bytes : List ℕ) (t : ℕ) (e : Event) → is_present e ≡ false → upgraded_event bytes t e ≡ bytes
-same_bytes bytes t (QueuePresentKHR queue waits presents) not = absurd cc
-same_bytes bytes t e not = refl
-
 -- a present is written anew
 pub other_bytes : (bytes : List ℕ) (t : ℕ) (e : Event) → is_present e ≡ true → upgraded_event bytes t e ≡ encoding 2 t e
 other_bytes bytes t (QueuePresentKHR queue waits presents) is = refl
