@@ -8,7 +8,6 @@ use Rattle.std.proofs.lemmas.Option.{slice_get_within, slice_get_past, slice_get
 use Rattle.std.specs.Slice.{IsItemAt}
 use Rattle.std.specs.Option.{option_copied}
 use Rattle.std.proofs.lemmas.List.{length-append}
-use Rattle.std.proofs.lemmas.List.Folds.{list_any-append}
 use Rattle.std.specs.FinMap as map
 use Rattle.std.specs.FinMap.{FinMap, get-insert, get-remove, get-empty}
 use Rattle.gfx_table.specs.Values.{get-with_rows}
@@ -50,7 +49,7 @@ module _ {X : Type 0} where
   get_push (y ∷ xs) x zero = grind (arith, nat_tests)
   get_push (y ∷ xs) x (suc i) = let rest = get_push xs x i in grind (arith, nat_tests, rest)
 
-  get_take : (xs : List X) (n i : ℕ) → slice_get (take n xs) i ≡ (if nat_lt i n then slice_get xs i else None)
+  pub get_take : (xs : List X) (n i : ℕ) → slice_get (take n xs) i ≡ (if nat_lt i n then slice_get xs i else None)
   get_take xs zero i = grind (arith, nat_tests)
   get_take [] (suc n) i = grind (arith, nat_tests)
   get_take (x ∷ xs) (suc n) zero = grind (arith, nat_tests)
@@ -317,23 +316,14 @@ none_placed_in ids places none listed = same_keys _ _ (λ q.
     let b : is_listed q ids ≡ false = ap (is_listed q) none in
     none_where_missing places q (grind (arith, a, b)) ∙ sym (get-empty nat_cmp q))
 
--- the last id and its place are taken
-pub less_placed : (ids ids2 : List ℕ) (places : FinMap nat_cmp ℕ) (id : ℕ) → ids ≡ ids2 ++ id ∷ [] → ((q : ℕ) → is_some (map.get places q) ≡ true → is_listed q ids ≡ true)
+-- the first id and its place are taken
+pub less_placed : (ids ids2 : List ℕ) (places : FinMap nat_cmp ℕ) (id : ℕ) → ids ≡ id ∷ ids2 → ((q : ℕ) → is_some (map.get places q) ≡ true → is_listed q ids ≡ true)
     → (q : ℕ) → is_some (map.get (map.remove places id) q) ≡ true → is_listed q ids2 ≡ true
 less_placed ids ids2 places id is listed q some =
     let a = get-remove nat_cmp_total places id q in
     let b = listed q in
-    let c : is_listed q ids ≡ (is_listed q ids2 || is_listed q (id ∷ [])) = ap (is_listed q) is ∙ list_any-append (λ x. x == q) ids2 (id ∷ []) in
+    let c : is_listed q ids ≡ ((id == q) || is_listed q ids2) = ap (is_listed q) is in
     grind (arith, nat_tests, a, b, c, some)
-
--- each id that is placed is listed
-pub all_listed : {X : Type 0} (ids : List ℕ) (rows : List X) (places : FinMap nat_cmp ℕ) → IsDense ids (length rows) places
-    → (q : ℕ) → is_some (map.get places q) ≡ true → is_listed q ids ≡ true
-all_listed ids rows places dense q some = cases (map.get places q) refl some
-  where
-    cases : (o : Option ℕ) → map.get places q ≡ o → is_some o ≡ true → is_listed q ids ≡ true
-    cases None is none = cc
-    cases (Some p) is there = listed_at ids p q (dense.found q p is)
 
 -- the one that stands at the place of an id which goes has a place still
 pub still_placed : (ids ids2 : List ℕ) (count : ℕ) (places : FinMap nat_cmp ℕ) → IsDense ids count places

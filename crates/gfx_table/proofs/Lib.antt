@@ -2,6 +2,7 @@ mod Bits
 mod Joining
 mod Leasts
 mod Densing
+mod Placing
 mod Grouping
 mod Places
 mod Slotting

@@ -9,7 +9,7 @@ use Rattle.std.proofs.lemmas.List.{get_or-set_same, get_or-set_other, get_or_def
 use Rattle.std.specs.FinMap as map
 use Rattle.std.specs.FinMap.{FinMap, find}
 use Rattle.gfx_table.specs.Joined.{joined}
-use Rattle.gfx_table.specs.Slotted.{slot_at, row_in, filled, own_slot, StandsOwn, IsInGroup, IsNowhere, CanTake, StandOnce, AreOwn, ArePlaced, IsSlotted}
+use Rattle.gfx_table.specs.Slotted.{slot_at, row_in, filled, own_slot, IsInGroup, IsNowhere, CanTake, StandOnce, AreOwn, ArePlaced, IsSlotted}
 use Rattle.gfx_table.proofs.Sorting.{times, times_cons, times_append, keys_once, sorted_keys}
 use Rattle.std.specs.Prelude.{map as each}
 use Rattle.std.proofs.Common.{append_assoc}

@@ -1,35 +1,34 @@
 //! Rows under ids that stand one after another, each of which is changed in its place.
-ghost use Rattle.std.specs.Prelude.{◌≡◌, ℕ, ◌+◌, ◌≤◌, true, [], is_some, IsSome, OnOk, None, Some, slice_get, vec_capacity};
+ghost use Rattle.std.specs.Prelude.{◌≡◌, ℕ, ◌+◌, ◌≤◌, is_some, IsSome, OnOk, None};
 ghost use Rattle.std.specs.Option.{option_copied, option_copied_mut};
 ghost use Rattle.std.specs.Borrow.{LendsIf, sem};
 ghost use Rattle.std.specs.FinMap as map;
-ghost use Rattle.gfx_table.specs.Dense.{is_listed, settled, StandApart};
+ghost use Rattle.gfx_table.specs.Dense.{is_listed, StandApart};
 
-use crate::slotted::Slotted;
+use crate::id_list::IdList;
 use std::alloc::{AllocError, Global};
 use std::marker::Model;
 
 /// Rows under ids, in no order. A row is changed where it stands, and all ids are at hand.
 #[derive(Drop)]
 pub struct Dense<V> {
-    ids: Vec<u64>,
+    ids: IdList,
     rows: Vec<V>,
-    // where the row of each id stands
-    places: Slotted<usize>,
 }
 
 impl<V> Model for Dense<V> {
     ghost use Rattle.std.specs.Prelude.{length, vec_capacity, ◌-◌, min};
     ghost use Rattle.gfx_table.specs.Slots.{Slots, slots_code};
     ghost use Rattle.gfx_table.specs.Dense.{rows_of, IsDense};
+    ghost use Rattle.gfx_table.specs.IdList.{places_in};
 
     ghost Value = { Slots V };
 
     ghost coded = { slots_code V.code };
 
-    ghost view = { λ t. record { map = rows_of t.rows.items t.places.map; spare = min (min (vec_capacity t.ids - length t.ids.items) (vec_capacity t.rows - length t.rows.items)) t.places.spare } };
+    ghost view = { λ t. record { map = rows_of t.rows.items (places_in t.ids.items); spare = min t.ids.spare (vec_capacity t.rows - length t.rows.items) } };
 
-    ghost invariant = { λ t. IsDense t.ids.items (length t.rows.items) t.places.map };
+    ghost invariant = { λ t. IsDense t.ids.items (length t.rows.items) (places_in t.ids.items) };
 }
 
 impl<V: Drop> Dense<V> {
@@ -40,9 +39,8 @@ impl<V: Drop> Dense<V> {
         ensures { result.map ≡ map.empty }
     {
         Dense {
-            ids: Vec::new(alloc),
+            ids: IdList::new(alloc),
             rows: Vec::new(alloc),
-            places: Slotted::new(alloc),
         }
     }
 
@@ -53,8 +51,7 @@ impl<V: Drop> Dense<V> {
         ensures spare { self.old.spare ≤ self.new.spare }
     {
         self.ids.reserve(more)?;
-        self.rows.reserve(more)?;
-        self.places.reserve(more)
+        self.rows.reserve(more)
     }
 
     /// The ids, each once.
@@ -62,15 +59,15 @@ impl<V: Drop> Dense<V> {
         ensures all { (id : ℕ) → is_listed id result.now ≡ is_some (map.get self.now.map id) }
         ensures once { StandApart result.now }
     {
-        &self.ids
+        self.ids.items()
     }
 
     /// The row under the id.
     pub fn get(&self, id: u64) -> Option<&V>
         ensures { option_copied result ≡ map.get self.now.map id }
     {
-        match self.places.get(id) {
-            Some(place) => self.rows.get(*place),
+        match self.ids.place(id) {
+            Some(place) => self.rows.get(place),
             None => None,
         }
     }
@@ -80,7 +77,7 @@ impl<V: Drop> Dense<V> {
         ensures* writes_back { sem 𝓛 (LendsIf (the_row V.row) V.row self.entry result (λ row. record self.old { map = map.insert self.old.map id row }) self.old) }
         ensures value { option_copied_mut result ≡ map.get self.old.map id }
     {
-        match self.places.get(id).copied() {
+        match self.ids.place(id) {
             Some(place) => Some(&mut self.rows[place]),
             None => None,
         }
@@ -93,13 +90,11 @@ impl<V: Drop> Dense<V> {
         ensures spare { self.old.spare ≤ self.new.spare + 1 }
         ensures kept { IsSome (map.get self.old.map id) → self.old.spare ≤ self.new.spare }
     {
-        match self.places.get(id).copied() {
+        match self.ids.place(id) {
             Some(place) => self.rows[place] = row,
             None => {
-                let place = self.ids.len();
-                self.ids.push_reserved(id);
+                self.ids.push(id);
                 self.rows.push_reserved(row);
-                self.places.set(id, place);
             }
         }
     }
@@ -110,9 +105,8 @@ impl<V: Drop> Dense<V> {
         ensures map { self.new.map ≡ map.remove self.old.map id }
         ensures spare { self.old.spare ≤ self.new.spare }
     {
-        let place = self.places.remove(id)?;
+        let place = self.ids.place(id)?;
         let _id = self.ids.swap_remove(place);
-        settle(&self.ids, &mut self.places, place);
         Some(self.rows.swap_remove(place))
     }
 
@@ -121,31 +115,7 @@ impl<V: Drop> Dense<V> {
         ensures map { self.new.map ≡ map.empty }
         ensures spare { self.old.spare ≤ self.new.spare }
     {
-        forget(&mut self.ids, &mut self.places);
+        self.ids.clear();
         self.rows.clear();
-    }
-}
-
-// Takes all ids and their places out.
-fn forget(ids: &mut Vec<u64>, places: &mut Slotted<usize>)
-    requires { (id : ℕ) → is_some (map.get places.old.map id) ≡ true → is_listed id ids.old.items ≡ true }
-    ensures ids { ids.new.items ≡ [] }
-    ensures places { places.new.map ≡ map.empty }
-    ensures capacity { vec_capacity ids.new ≡ vec_capacity ids.old }
-    ensures spare { places.old.spare ≤ places.new.spare }
-{
-    'ids: while let Some(id) = ids.pop() {
-        let _place = places.remove(id);
-    }
-}
-
-// What stands at this place among the ids, where something does, gets this place in place of the one that it has.
-fn settle(ids: &[u64], places: &mut Slotted<usize>, place: usize)
-    requires { (id : ℕ) → slice_get ids.now place ≡ Some id → IsSome (map.get places.old.map id) }
-    ensures map { places.new.map ≡ settled places.old.map (slice_get ids.now place) place }
-    ensures spare { places.old.spare ≤ places.new.spare }
-{
-    if let Some(id) = ids.get(place) {
-        places.set(*id, place);
     }
 }

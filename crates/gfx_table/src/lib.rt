@@ -4,6 +4,7 @@
 
 mod dense;
 mod groups;
+mod id_list;
 mod ordered;
 mod slotted;
 mod spill;
