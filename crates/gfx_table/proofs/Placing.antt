@@ -10,10 +10,10 @@ use Rattle.std.specs.FinMap.{FinMap, get-insert, get-empty}
 use Rattle.gfx_table.specs.Dense.{is_listed, StandApart, settled, IsDense}
 use Rattle.gfx_table.specs.IdList.{places_from, places_in, IsPlaced}
 use Rattle.gfx_table.proofs.Joining.{same_keys}
-use Rattle.std.proofs.lemmas.Option.{slice_get-get_or}
+use Rattle.std.proofs.lemmas.Option.{slice_get-get_or, slice_get_read}
 use Rattle.std.proofs.lemmas.List.{take_more}
 use Rattle.std.proofs.lemmas.List.{length-take}
-use Rattle.gfx_table.proofs.Densing.{listed_at, unlisted, get_take, push_row, remove_row, IsMoved}
+use Rattle.gfx_table.proofs.Densing.{listed_at, unlisted, get_take, moved, push_row, remove_row, IsMoved}
 
 -- what has a place stands there
 found_from : (n : ℕ) (ids : List ℕ) (q p : ℕ) → map.get (places_from n ids) q ≡ Some p → (n ≤ p) × (slice_get ids (p - n) ≡ Some q)
@@ -120,12 +120,6 @@ listed_placed ids q some = by (map.get (places_in ids) q) refl some
 pub next_of : (ids : List ℕ) (i d : ℕ) → i < length ids → drop i ids ≡ get_or ids i d ∷ drop (i + 1) ids
 next_of ids i d lt = let one : suc i ≡ i + 1 = omega arith in drop-cons ids i d lt ∙ ap (λ n. get_or ids i d ∷ drop n ids) one
 
-pub none_over : (ids : List ℕ) (i : ℕ) → length ids ≤ i → drop i ids ≡ []
-none_over [] zero over = refl
-none_over [] (suc i) over = refl
-none_over (x ∷ ids) zero over = absurd (omega (arith, over))
-none_over (x ∷ ids) (suc i) over = none_over ids i (omega (arith, over))
-
 in_take : (ids : List ℕ) (n i id : ℕ) → slice_get (take n ids) i ≡ Some id → (i < n) × (slice_get ids i ≡ Some id)
 in_take ids n i id at = let a = get_take ids n i in (grind (arith, nat_tests, a, at), grind (arith, nat_tests, a, at))
 
@@ -168,13 +162,19 @@ placed_push ids id true places now is none put = record {
 }
 placed_push ids id false places now is none put = record { apart = apart_in _ _ _ (pushed ids id is.apart none); kept = put ∙ is.kept }
 
-pub placed_removed : (ids ids2 : List ℕ) (id p : ℕ) (t : Bool) (places now : FinMap nat_cmp ℕ) → IsPlaced ids t places → slice_get ids p ≡ Some id → IsMoved ids p ids2
+placed_removed : (ids ids2 : List ℕ) (id p : ℕ) (t : Bool) (places now : FinMap nat_cmp ℕ) → IsPlaced ids t places → slice_get ids p ≡ Some id → IsMoved ids p ids2
     → now ≡ cond t (settled (map.remove places id) (slice_get ids2 p) p) places → IsPlaced ids2 t now
 placed_removed ids ids2 id p true places now is at move gone = record {
   apart = apart_in _ _ _ (removed ids ids2 id p is.apart at move);
   kept = gone ∙ ap (λ m. settled (map.remove m id) (slice_get ids2 p) p) is.kept ∙ one_way _ _ _ (removed ids ids2 id p is.apart at move);
 }
 placed_removed ids ids2 id p false places now is at move gone = record { apart = apart_in _ _ _ (removed ids ids2 id p is.apart at move); kept = gone ∙ is.kept }
+
+-- the id at a place goes, as a list's swap_remove takes it
+pub placed_taken : (ids ids2 : List ℕ) (id p : ℕ) (t : Bool) (places now : FinMap nat_cmp ℕ) → IsPlaced ids t places → p < length ids → id ≡ slice_index_or ids p id → ids2 ≡ swap_remove ids p id
+    → now ≡ cond t (settled (map.remove places id) (slice_get ids2 p) p) places → IsPlaced ids2 t now
+placed_taken ids ids2 id p t places now is lt value items gone =
+    placed_removed ids ids2 id p t places now is (slice_get_read ids (length ids) p id refl lt value) (moved ids ids2 p id lt (ap (λ l. length l + 1) items ∙ one_less ids p id lt) items) gone
 
 -- where an id stands, once it was sought among all
 pub sought : (ids : List ℕ) (id : ℕ) (o : Option ℕ) → StandApart ids → ((p : ℕ) → o ≡ Some p → slice_get ids p ≡ Some id) → (o ≡ None → is_listed id ids ≡ false)

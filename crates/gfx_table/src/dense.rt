@@ -110,7 +110,7 @@ impl<V: Drop> Dense<V> {
         Some(self.rows.swap_remove(place))
     }
 
-    /// Takes all rows out. There is room for as many.
+    /// Takes all rows out. There is no less room for new ones.
     pub fn clear(&mut self)
         ensures map { self.new.map ≡ map.empty }
         ensures spare { self.old.spare ≤ self.new.spare }

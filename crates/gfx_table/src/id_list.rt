@@ -1,6 +1,6 @@
 //! Ids that stand one after another, each of which is found.
 ghost use Rattle.std.specs.Prelude.{◌≡◌, ℕ, ◌+◌, ◌<◌, ◌≤◌, ◌++◌, ◌∷◌, [], false, length, slice_get, IsSome, IfSome, OnOk, None, Some};
-ghost use Rattle.std.specs.List.{swap_remove};
+ghost use Rattle.std.specs.List.{slice_index_or, swap_remove};
 ghost use Rattle.std.specs.FinMap as map;
 ghost use Rattle.gfx_table.specs.Dense.{is_listed, StandApart, settled};
 ghost use Rattle.gfx_table.specs.IdList.{places_in};
@@ -9,10 +9,10 @@ use crate::slotted::Slotted;
 use std::alloc::{AllocError, Global};
 use std::marker::Model;
 
-// So many ids are found by going over them.
+// Where room for more ids than these is asked for, the place of each is kept.
 const FEW: usize = 8;
 
-/// Ids one after another, each once. Few are found by going over them; of more the place of each is kept.
+/// Ids one after another, each once. Few are found by going over them; where there was ever room for more, the place of each is kept.
 #[derive(Drop)]
 pub(crate) struct IdList {
     ids: Vec<u64>,
@@ -99,6 +99,7 @@ impl IdList {
     /// Takes the id at a place out. The last one stands there then.
     pub(crate) fn swap_remove(&mut self, place: usize) -> u64
         requires { place < length self.old.items }
+        ensures value { result ≡ slice_index_or self.old.items place result }
         ensures items { self.new.items ≡ swap_remove self.old.items place result }
         ensures spare { self.old.spare ≤ self.new.spare }
     {
@@ -110,7 +111,7 @@ impl IdList {
         id
     }
 
-    /// Takes all ids out. There is room for as many.
+    /// Takes all ids out. There is no less room for new ones.
     pub(crate) fn clear(&mut self)
         ensures items { self.new.items ≡ [] }
         ensures spare { self.old.spare ≤ self.new.spare }

@@ -1,6 +1,7 @@
 use Rattle.std.proofs.Common.{◌+◌, drop, arith}
+use Rattle.std.proofs.lemmas.List.{drop_all}
 use Rattle.gfx_table.proofs.Densing.{less_placed, none_placed_in}
-use Rattle.gfx_table.proofs.Placing.{listed_placed, next_of, none_over}
+use Rattle.gfx_table.proofs.Placing.{listed_placed, next_of}
 use Rattle.gfx_table.proofs.id_list.forget.Goals as goal
 
 pub ids-init : goal.ids-init
@@ -14,4 +15,4 @@ ids-preserved c = (
 )
 
 pub returns-clause-places : goal.returns-clause-places
-returns-clause-places c = none_placed_in (drop c.ids.id-index c.args.ids.now) c.ids.places.map (none_over c.args.ids.now c.ids.id-index c.ids-test.false) c.ids.invariant.0
+returns-clause-places c = none_placed_in (drop c.ids.id-index c.args.ids.now) c.ids.places.map (drop_all c.ids.id-index c.args.ids.now c.ids-test.false) c.ids.invariant.0
