@@ -1,5 +1,5 @@
 //! Commands that are recorded in batches.
-ghost use Rattle.std.specs.Prelude.{◌≡◌, ◌<◌, ◌≤◌, All, length};
+ghost use Rattle.std.specs.Prelude.{◌≡◌, ◌≤◌, All, length};
 ghost use Rattle.gfx_callers.specs.Caller.{CallsAt};
 
 use crate::blocks::{behind_header, split_block};
@@ -11,7 +11,6 @@ use std::alloc::Global;
 use std::process::Abort;
 use std::sync::Wait;
 use std::test::Fail;
-use std::thread::Threads;
 
 /// So many barriers, of which as many fit into a batch, and what appending these answers.
 fn send_barriers<R: Abort + Wait>(
@@ -142,32 +141,15 @@ fn assert_batches<R: Abort>(rt: &R, log: &Log) {
     assert_whole(rt, log.bytes(), 100);
 }
 
-fn run_each<R: Threads + Wait + Sync>(
-    rt: &R,
-    alloc: Global,
-    capture: &Capture,
-    callers: Vec<Caller>,
-    plan: Plan,
-) -> Vec<Caller>
-    requires some { 0 < length callers.items }
-    requires capture { All (λ c. CallsAt c capture.now) callers.items }
-    ensures capture { All (λ c. CallsAt c capture.now) result.items }
-    ensures count { length result.items ≡ length callers.items }
-{
-    let mut callers = callers;
-    run_all(rt, alloc, capture, callers.as_mut_slice(), plan);
-    callers
-}
-
 #[test]
 fn batches_of_eight_threads_stand_whole(rt: HostRuntime) -> Result<(), Fail> {
     let alloc = rt.alloc();
-    let (capture, callers) = open(alloc, 8)?;
+    let (capture, mut callers) = open(alloc, 8)?;
     let plan = Plan::Barriers {
         batches: 50,
         each: 100,
     };
-    let callers = run_each(&rt, alloc, &capture, callers, plan);
+    run_all(&rt, alloc, &capture, callers.as_mut_slice(), plan);
     let log = close(alloc, capture, callers)?;
     assert_batches(&rt, &log);
     Ok(())

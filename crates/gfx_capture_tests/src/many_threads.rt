@@ -46,7 +46,8 @@ fn make_all<R: Abort + Wait>(
 {
     let mut seen = seen;
     for &(call, fault) in steps {
-        let place = match caller.make(rt, alloc, capture, call) {
+        let answer = caller.make(rt, alloc, capture, call);
+        let place = match answer {
             Ok(receipt) => {
                 assert_eq!(rt; (receipt.count, fault), (1, None));
                 receipt.from
@@ -148,22 +149,6 @@ fn play_all<R: Threads + Wait + Sync + Abort>(
     );
 }
 
-fn play_each<R: Threads + Wait + Sync + Abort>(
-    rt: &R,
-    alloc: Global,
-    capture: &Capture,
-    callers: Vec<Caller>,
-) -> Vec<Caller>
-    requires some { 0 < length callers.items }
-    requires capture { All (λ c. CallsAt c capture.now) callers.items }
-    ensures capture { All (λ c. CallsAt c capture.now) result.items }
-    ensures count { length result.items ≡ length callers.items }
-{
-    let mut callers = callers;
-    play_all(rt, alloc, capture, callers.as_mut_slice());
-    callers
-}
-
 /// The ids of the calls of a thread that are accepted, in order.
 fn accepted(alloc: Global) -> Result<Vec<u32>, AllocError> {
     let mut ids = Vec::from_slice(alloc, &BEFORE)?;
@@ -220,8 +205,8 @@ fn assert_log<R: Abort>(rt: &R, alloc: Global, log: &Log) -> Result<(), Fail> {
 #[test]
 fn eight_threads_call_at_one_capture(rt: HostRuntime) -> Result<(), Fail> {
     let alloc = rt.alloc();
-    let (capture, callers) = open(alloc, THREADS)?;
-    let callers = play_each(&rt, alloc, &capture, callers);
+    let (capture, mut callers) = open(alloc, THREADS)?;
+    play_all(&rt, alloc, &capture, callers.as_mut_slice());
     let log = close(alloc, capture, callers)?;
     assert_log(&rt, alloc, &log)
 }

@@ -1,5 +1,6 @@
 pub mod Spelled
 pub mod Index
+pub mod Places
 pub mod Cuts
 pub mod Added
 pub mod Counting

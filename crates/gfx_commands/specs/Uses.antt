@@ -1,9 +1,11 @@
 -- What the commands of a buffer ask of each resource.
-use Rattle.std.specs.Prelude.{◌≡◌, ℕ, ◌==◌, Bool, true, ◌||◌, List, Option, Some, None, is_some, unwrap_or, if◌then◌else◌}
+use Rattle.std.specs.Prelude.{◌≡◌, ℕ, ◌≤◌, ◌==◌, Bool, true, false, ◌||◌, List, length, Option, Some, None, is_some, unwrap_or, if◌then◌else◌}
 use Rattle.std.specs.Option.{option_or}
+use Rattle.std.specs.List.{list_all}
 use Rattle.std.specs.Ordering.{nat_cmp}
 use Rattle.std.specs.FinMap as map
 use Rattle.std.specs.FinMap.{FinMap}
+use Rattle.gfx_table.specs.Slots.{Slots}
 use Rattle.gfx_model.specs.Checks.{Layouts, meets, layouts_after, is_among}
 use Rattle.gfx_commands.specs.declared.uses.Use.{Use}
 
@@ -47,3 +49,7 @@ pub record IsIndex (uses : FinMap nat_cmp Use) (agrees : Bool) (named : List ℕ
   pub met : (layout : ℕ → ℕ) → meets layout asks ≡ true → (agrees ≡ true) × ((x : ℕ) → suits (use_of uses x).wanted (layout x) ≡ true)
   pub enough : (layout : ℕ → ℕ) → agrees ≡ true → ((x : ℕ) → suits (use_of uses x).wanted (layout x) ≡ true) → meets layout asks ≡ true
   pub left : (layout : ℕ → ℕ) (x : ℕ) → layouts_after layout asks x ≡ unwrap_or (use_of uses x).left (layout x)
+
+-- all of these resources are named, or there is a place for each
+abbrev pub HasPlaces : Slots Use → List ℕ → Type 0
+HasPlaces table named = list_all (λ x. is_some (map.get table.map x)) named ≡ false → length named ≤ table.spare

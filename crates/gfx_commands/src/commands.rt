@@ -1,10 +1,10 @@
 //! The commands of a buffer, and what is kept beside them so that no byte is read again.
-ghost use Rattle.std.specs.Prelude.{flat_map, ◌≡◌, ◌≤◌, ◌++◌, ◌∷◌, [], length, slice_get, take, option_map, IfOk, OnOk, OnErr, IfSome};
-ghost use Rattle.std.specs.List.{AllByRecursion};
+ghost use Rattle.std.specs.Prelude.{flat_map, ◌≡◌, ◌≤◌, ◌++◌, ◌∷◌, [], true, length, slice_get, take, option_map, IfOk, OnOk, OnErr, IfSome};
+ghost use Rattle.std.specs.List.{AllByRecursion, list_all};
 ghost use Rattle.gfx_model.specs.Events.{event_of_call};
 ghost use Rattle.gfx_model.specs.Spelling.{HasSpelling, spelling};
 ghost use Rattle.gfx_model.specs.Steps.{resources_of};
-ghost use Rattle.gfx_model.specs.Checks.{layouts_of};
+ghost use Rattle.gfx_model.specs.Checks.{is_among, layouts_of};
 ghost use Rattle.gfx_objects.specs.Objects.{answers};
 ghost use Rattle.gfx_ops.specs.Operations.{ops_of_command};
 ghost use Rattle.gfx_commands.specs.Runnable.{IsRunnable};
@@ -13,7 +13,7 @@ ghost use Rattle.gfx_commands.specs.Uses.{IsIndex};
 ghost use Rattle.gfx_commands.specs.Commands.{events_in, bytes_of, start_at};
 
 use crate::recorded::Recorded;
-use crate::uses::{Uses, resources_in};
+use crate::uses::Uses;
 use gfx_objects::Objects;
 use gfx_types::{Call, OpList, WantMemory};
 use std::alloc::Global;
@@ -100,15 +100,17 @@ impl Commands {
         })
     }
 
-    /// Adds a command at the end, and says how many bytes its fields are. After want of memory the commands are as before.
-    pub(crate) fn add(&mut self, call: &Call<'_>) -> Result<u64, WantMemory>
-        requires { HasSpelling 1 (event_of_call call.now) }
+    /// Adds a command at the end, whose resources are perhaps known to be named already, and says how many bytes its fields
+    /// are. After want of memory the commands are as before.
+    pub(crate) fn add(&mut self, call: &Call<'_>, is_known: bool) -> Result<u64, WantMemory>
+        requires spelled { HasSpelling 1 (event_of_call call.now) }
+        requires known { is_known ≡ true → list_all (λ x. is_among x (flat_map resources_of (events_in self.old))) (resources_of (event_of_call call.now)) ≡ true }
         ensures ok { OnOk result (events_in self.new ≡ events_in self.old ++ event_of_call call.now ∷ []) }
         ensures bytes { IfOk result (λ bytes. bytes ≡ length (spelling 1 (event_of_call call.now))) }
         ensures err { OnErr result (self.new ≡ self.old) }
     {
         let before = self.fields.len();
-        let Ok(()) = self.uses.reserve(resources_in(call)) else {
+        let Ok(()) = self.uses.reserve(call, is_known) else {
             return Err(WantMemory);
         };
         let Ok(()) = self.commands.reserve(1) else {

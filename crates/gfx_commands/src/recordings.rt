@@ -132,11 +132,11 @@ impl Recordings {
         ensures err { OnErr result (self.new ≡ self.old) }
     {
         if self.rows.names_all(cb, call) {
-            self.rows.add(cb, call)?;
+            self.rows.add(cb, call, true)?;
             return Ok(());
         }
         self.users.reserve(call)?;
-        self.rows.add(cb, call)?;
+        self.rows.add(cb, call, false)?;
         self.users.insert(cb, call);
         Ok(())
     }

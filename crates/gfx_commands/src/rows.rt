@@ -148,8 +148,10 @@ impl Rows {
         }
     }
 
-    /// Adds a command to a recording buffer. After want of memory all is as before.
-    pub(crate) fn add(&mut self, cb: u64, call: &Call<'_>) -> Result<(), WantMemory>
+    /// Adds a command to a recording buffer, which is perhaps known to name its resources already. After want of memory all is as
+    /// before.
+    pub(crate) fn add(&mut self, cb: u64, call: &Call<'_>, is_known: bool) -> Result<(), WantMemory>
+        requires known { is_known ≡ true → list_all (λ x. names x (buffers self.old.map cb)) (resources_of (event_of_call call.now)) ≡ true }
         requires recording { IsTrue (is_recording (buffers self.old.map cb).state) }
         requires spelled { HasSpelling 1 (event_of_call call.now) }
         requires few { commands_total self.old.map + 1 ≤ max_kept_commands }
@@ -160,7 +162,7 @@ impl Rows {
         let Some(row) = self.table.get_mut(cb) else {
             unreachable!()
         };
-        let bytes = row.commands.add(call)?;
+        let bytes = row.commands.add(call, is_known)?;
         self.totals = Totals {
             commands: self.totals.commands + 1,
             bytes: self.totals.bytes + bytes,

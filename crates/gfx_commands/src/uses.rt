@@ -1,5 +1,5 @@
 //! What the commands of a buffer ask of each resource that they name.
-ghost use Rattle.std.specs.Prelude.{◌≡◌, ◌+◌, ◌≤◌, ◌++◌, ◌∷◌, [], ℕ, List, true, length, map, is_some, slice_get, OnOk};
+ghost use Rattle.std.specs.Prelude.{◌≡◌, ◌≤◌, ◌++◌, ◌∷◌, [], ℕ, List, true, length, map, is_some, slice_get, OnOk, None};
 ghost use Rattle.std.specs.List.{list_all};
 ghost use Rattle.std.specs.FinMap as finmap;
 ghost use Rattle.gfx_table.specs.Dense.{is_listed};
@@ -7,7 +7,7 @@ ghost use Rattle.gfx_model.specs.Events.{event_of_call};
 ghost use Rattle.gfx_model.specs.Steps.{resources_of};
 ghost use Rattle.gfx_model.specs.Checks.{Layouts, layouts_of};
 ghost use Rattle.gfx_model.specs.Checks.Layouts.{stays, goes};
-ghost use Rattle.gfx_commands.specs.Uses.{IsIndex, use_of, known, accepts, asked, lets_go, gone};
+ghost use Rattle.gfx_commands.specs.Uses.{IsIndex, HasPlaces, plain, use_of, known, accepts, asked, lets_go, gone};
 
 use gfx_table::Dense;
 use gfx_types::{Barrier, Call};
@@ -29,6 +29,16 @@ pub(crate) struct Uses {
 }
 
 impl Use {
+    /// Nothing is asked.
+    fn none() -> Use
+        ensures { result ≡ plain }
+    {
+        Use {
+            wanted: None,
+            left: None,
+        }
+    }
+
     /// The layout that the image has by now, as far as the commands tell.
     pub(crate) fn known(&self) -> Option<u32>
         ensures { result ≡ known self.now }
@@ -99,60 +109,70 @@ impl Uses {
     {
         match self.table.get(id) {
             Some(used) => *used,
-            None => Use {
-                wanted: None,
-                left: None,
-            },
+            None => Use::none(),
         }
     }
 
-    /// Makes room for so many new resources.
-    pub(crate) fn reserve(&mut self, more: usize) -> Result<(), AllocError>
+    /// Makes room for the resources of a command, which are perhaps known to be named.
+    pub(crate) fn reserve(&mut self, call: &Call<'_>, is_known: bool) -> Result<(), AllocError>
+        requires { is_known ≡ true → list_all (λ x. is_some (finmap.get self.old.table.map x)) (resources_of (event_of_call call.now)) ≡ true }
         ensures map { self.new.table.map ≡ self.old.table.map }
         ensures agrees { self.new.agrees ≡ self.old.agrees }
-        ensures ok { OnOk result (more ≤ self.new.table.spare) }
+        ensures ok { OnOk result (HasPlaces self.new.table (resources_of (event_of_call call.now))) }
     {
-        self.table.reserve(more)
+        if is_known {
+            return Ok(());
+        }
+        self.table.reserve(resources_in(call))
     }
 
     // A resource that is named.
     fn name(&mut self, id: u64)
-        requires { 1 ≤ self.old.table.spare }
+        requires { finmap.get self.old.table.map id ≡ None → 1 ≤ self.old.table.spare }
         ensures index { (named : List ℕ) (asks : List Layouts) → IsIndex self.old.table.map self.old.agrees named asks
             → IsIndex self.new.table.map self.new.agrees (named ++ id ∷ []) asks }
-        ensures spare { self.old.table.spare ≤ self.new.table.spare + 1 }
+        ensures places { (rest : List ℕ) → HasPlaces self.old.table (id ∷ rest) → HasPlaces self.new.table rest }
     {
-        let used = self.get(id);
-        self.table.set(id, used);
+        if !self.names(id) {
+            self.table.set(id, Use::none());
+        }
     }
 
     // An image that must have a layout.
     fn ask(&mut self, image: u64, layout: u32)
-        requires { 1 ≤ self.old.table.spare }
+        requires { finmap.get self.old.table.map image ≡ None → 1 ≤ self.old.table.spare }
         ensures index { (named : List ℕ) (asks : List Layouts) → IsIndex self.old.table.map self.old.agrees named asks
             → IsIndex self.new.table.map self.new.agrees (named ++ image ∷ []) (asks ++ stays image layout ∷ []) }
-        ensures spare { self.old.table.spare ≤ self.new.table.spare + 1 }
+        ensures places { (rest : List ℕ) → HasPlaces self.old.table (image ∷ rest) → HasPlaces self.new.table rest }
     {
-        let used = self.get(image);
-        self.agrees = self.agrees && used.accepts(layout);
-        self.table.set(image, used.asked(layout));
+        match self.table.get_mut(image) {
+            Some(used) => {
+                self.agrees = self.agrees && used.accepts(layout);
+                *used = used.asked(layout);
+            }
+            None => self.table.set(image, Use::none().asked(layout)),
+        }
     }
 
     // An image that a barrier takes from one layout to another.
     fn change(&mut self, image: u64, before: u32, after: u32)
-        requires { 1 ≤ self.old.table.spare }
+        requires { finmap.get self.old.table.map image ≡ None → 1 ≤ self.old.table.spare }
         ensures index { (named : List ℕ) (asks : List Layouts) → IsIndex self.old.table.map self.old.agrees named asks
             → IsIndex self.new.table.map self.new.agrees (named ++ image ∷ []) (asks ++ goes image before after ∷ []) }
-        ensures spare { self.old.table.spare ≤ self.new.table.spare + 1 }
+        ensures places { (rest : List ℕ) → HasPlaces self.old.table (image ∷ rest) → HasPlaces self.new.table rest }
     {
-        let used = self.get(image);
-        self.agrees = self.agrees && used.lets_go(before);
-        self.table.set(image, used.gone(before, after));
+        match self.table.get_mut(image) {
+            Some(used) => {
+                self.agrees = self.agrees && used.lets_go(before);
+                *used = used.gone(before, after);
+            }
+            None => self.table.set(image, Use::none().gone(before, after)),
+        }
     }
 
     // The images of barriers, each taken from one layout to another.
     fn change_all(&mut self, barriers: &[Barrier])
-        requires { length barriers.now ≤ self.old.table.spare }
+        requires { HasPlaces self.old.table (map (λ b. b.image) barriers.now) }
         ensures { (named : List ℕ) (asks : List Layouts) → IsIndex self.old.table.map self.old.agrees named asks
             → IsIndex self.new.table.map self.new.agrees (named ++ map (λ b. b.image) barriers.now) (asks ++ map (λ b. goes b.image b.before b.after) barriers.now) }
     {
@@ -161,10 +181,10 @@ impl Uses {
         }
     }
 
-    /// The resources and layouts of a command. It takes a spare place for each resource that the command names.
+    /// The resources and layouts of a command. A resource that isn't named yet takes a spare place.
     #[tactic(auto, unfolding(gfx_model::specs::Steps::resources_of, gfx_model::specs::Checks::layouts_of))]
     pub(crate) fn add(&mut self, call: &Call<'_>)
-        requires { length (resources_of (event_of_call call.now)) ≤ self.old.table.spare }
+        requires { HasPlaces self.old.table (resources_of (event_of_call call.now)) }
         ensures { (named : List ℕ) (asks : List Layouts) → IsIndex self.old.table.map self.old.agrees named asks
             → IsIndex self.new.table.map self.new.agrees (named ++ resources_of (event_of_call call.now)) (asks ++ layouts_of (event_of_call call.now)) }
     {

@@ -5,7 +5,7 @@ use Rattle.std.specs.Result.{IsErrAnd}
 use Rattle.std.proofs.lemmas.Bool.{cond-true, cond-false, le-leb, leb-true, eq-eqb, and_parts, and_from, and_left, and_right}
 use Rattle.std.proofs.lemmas.List.{drop_more, drop_all, drop_at, take_at}
 use Rattle.std.proofs.lemmas.Grind.{flat_map-append}
-use Rattle.gfx_params.proofs.Texts.{front_stays}
+use Rattle.gfx_text_writer.proofs.Grown.{front_stays}
 use Rattle.gfx_model.specs.Spelling.{header}
 use Rattle.std.proofs.lemmas.Option.{cond_some}
 use Rattle.std.proofs.lemmas.Result.{err_from_is_err_and}

@@ -8,7 +8,7 @@ use Rattle.std.specs.Int.{to_le_bytes, w32, w64}
 use Rattle.std.proofs.lemmas.Result.{err_from_is_err_and}
 use Rattle.std.proofs.lemmas.Bool.{cond-false, lt-leb}
 use Rattle.std.proofs.lemmas.List.{take_at, drop_at, length-take-le}
-use Rattle.gfx_params.proofs.Texts.{front_stays}
+use Rattle.gfx_text_writer.proofs.Grown.{front_stays}
 use Rattle.gfx_model.specs.Limits.{max_payload}
 use Rattle.gfx_types.specs.declared.effect.Effect.TheVariants.{Marker}
 use Rattle.gfx_model.specs.Events.{Event, event_of}

@@ -149,6 +149,14 @@ module _ (k n : Kept) (id : ℕ) (o : Object) (d : Detail) (rows : n.rows ≡ ma
       (bound_same b) (mapped_same m) (λ x. layout_now _ l x ∙ at_its_id x _ _)
       (λ x. refl) (λ x. refl) (λ x. refl) refl refl refl
 
+-- the layout that an image has is set
+pub laid_so : (k : Kept) (id : ℕ) (o : Object) (layout : ℕ) → map.get k.rows id ≡ Some o → layout_of o.detail ≡ layout → answers k ≡ after (answers k) (changes (set_layout id layout))
+unfolding answers after
+laid_so k id o layout some is =
+    view_ext _ _ (λ x. refl) refl (λ x. refl) (λ x. refl) (λ x. refl)
+    (λ x. let here : id ≡ x → map.get k.rows x ≡ Some o = λ p. rw (sym p) some in grind (arith, nat_tests, here, is))
+    (λ x. refl) (λ x. refl) (λ x. refl) refl refl refl
+
 -- ---- the same rows
 
 pub answers_same : (k n : Kept) → n.rows ≡ k.rows → holds n.used ≡ holds k.used → answers n ≡ answers k

@@ -270,8 +270,10 @@ impl Objects {
         ensures spare { self.new.spare ≡ self.old.spare }
     {
         if let Some(object) = self.get(image).copied() {
-            let detail = object.detail.with_layout(layout);
-            self.set_detail(image, object, detail);
+            if object.detail.layout() != layout {
+                let detail = object.detail.with_layout(layout);
+                self.set_detail(image, object, detail);
+            }
         }
     }
 
@@ -312,7 +314,7 @@ impl Objects {
         put_in(&mut self.owned, owner, object.id);
         self.swapchains.add_to(surface);
         self.used.insert(object.id);
-        self.rows.set(object.id, object);
+        self.rows.insert(object.id, object);
         self.room -= 1;
     }
 

@@ -4,13 +4,13 @@ ghost use Rattle.gfx_model.specs.Questions.{range_of};
 ghost use Rattle.gfx_model.specs.Checks as words;
 ghost use Rattle.gfx_model.specs.Views as view;
 ghost use Rattle.gfx_model.specs.Limits.{max_live_bytes};
-ghost use Rattle.gfx_objects.specs.Object.{window_of, binding_of};
+ghost use Rattle.gfx_objects.specs.Object.{bound_of, detail_of, window_of, binding_of};
 ghost use Rattle.gfx_objects.specs.Objects.{answers};
 
 use crate::kinds::number_of;
 use crate::object::{Binding, Detail, Window};
 use crate::objects::Objects;
-use gfx_types::{Kind, MapRange, Place, image_size};
+use gfx_types::{Kind, MapRange, Place, Resource, image_size};
 
 impl Objects {
     /// The bytes of a live memory, buffer or image, 0 for any other id.
@@ -157,6 +157,38 @@ impl Objects {
             None => 0,
         };
         self.climb(steps - 1, parent)
+    }
+
+    /// What a command asks of a live object of this kind.
+    pub fn resource(&self, kind: Kind, id: u64) -> Option<Resource>
+        ensures live { is_some result ≡ view.is_live (answers self.now) kind id }
+        ensures parent { IfSome result (λ r. r.parent ≡ view.parent_of (answers self.now) id) }
+        ensures usage { IfSome result (λ r. r.usage ≡ view.usage_of (answers self.now) id) }
+        ensures usable { IfSome result (λ r. r.is_usable ≡ view.is_usable (answers self.now) id) }
+    {
+        let object = self.get(id)?;
+        if number_of(object.kind) != number_of(kind) {
+            return None;
+        }
+        Some(Resource {
+            parent: object.parent,
+            usage: object.detail.usage(),
+            is_usable: self.is_usable(id, &object.detail),
+        })
+    }
+
+    // Whether the bytes of an object stand somewhere, by its parameters.
+    fn is_usable(&self, id: u64, detail: &Detail) -> bool
+        requires { (answers self.now).bound id ≡ bound_of detail.now }
+        ensures { result ≡ is_some (view.detail_window (answers self.now) id (detail_of detail.now)) }
+    {
+        match detail {
+            Detail::Image { index: Some(_), .. } => true,
+            _ => match detail.memory() {
+                Some(memory) => self.is_live(Kind::Memory, memory),
+                None => false,
+            },
+        }
     }
 
     /// Where the bytes of a resource stand: none exactly where it isn't usable.

@@ -1,61 +1,62 @@
 // Writing of lists: the number of their items, and the items.
-ghost use Rattle.std.specs.Prelude.{◌≡◌, ◌<◌, ◌+◌, ◌^◌, ℕ, List, ◌++◌, flat_map, length, take, OnOk, OnErr};
+ghost use Rattle.std.specs.Prelude.{◌≡◌, ◌≤◌, ◌+◌, ℕ, List, flat_map, length, min};
 ghost use Rattle.gfx_model.specs.Spelling.{list_of, id_fields, word_fields, barrier_fields, buffer_region_fields, image_region_fields, mixed_region_fields, submit_fields, present_fields};
 ghost use Rattle.gfx_grammar.specs.Reads.{Fits, text_of};
+ghost use Rattle.gfx_params.specs.Writes.{written};
 
 use crate::write::WriteFields;
 use gfx_types::{
     Barriers, BufferRegions, Ids, ImageRegions, MixedRegions, Numbers, Presents, Submits,
 };
-use std::alloc::AllocError;
 
-/// Appends the items one after the other.
-fn write_items<T: WriteFields>(items: &[T], out: &mut Vec<u8>) -> Result<(), AllocError>
-    requires { Fits (flat_map T.fields items.now) }
-    ensures ok { OnOk result (out.new.items ≡ out.old.items ++ text_of (flat_map T.fields items.now)) }
-    ensures err { OnErr result (take (length out.old.items) out.new.items ≡ out.old.items) }
+/// Puts the items one after the other, and tells the place behind them.
+fn write_items<T: WriteFields>(items: &[T], out: &mut Vec<u8>, at: usize) -> usize
+    requires fits { Fits (flat_map T.fields items.now) }
+    requires room { at + length (text_of (flat_map T.fields items.now)) ≤ length out.old.items }
+    ensures bytes { out.new.items ≡ written out.old.items at (text_of (flat_map T.fields items.now)) }
+    ensures behind { result ≡ at + length (text_of (flat_map T.fields items.now)) }
 {
+    let mut behind = at;
     'items: for item in items {
-        item.write(out)?;
+        behind = item.write(out, behind);
     }
-    Ok(())
+    behind
 }
 
-/// How many bytes the items take.
+/// How many bytes the items take, or 2^64 - 1 where these are more.
 fn items_length<T: WriteFields>(items: &[T]) -> u64
-    requires { length (text_of (flat_map T.fields items.now)) < 2 ^ 64 }
-    ensures { result ≡ length (text_of (flat_map T.fields items.now)) }
+    ensures { result ≡ min (length (text_of (flat_map T.fields items.now))) 18446744073709551615 }
 {
-    let mut total = 0;
+    let mut total: u64 = 0;
     'items: for item in items {
-        total += item.length();
+        total = total.saturating_add(item.length());
     }
     total
 }
 
-/// Appends a list: the number of its items, and the items.
-fn write_list<T: WriteFields>(items: &[T], out: &mut Vec<u8>) -> Result<(), AllocError>
-    requires { Fits (list_of T.fields items.now) }
-    ensures ok { OnOk result (out.new.items ≡ out.old.items ++ text_of (list_of T.fields items.now)) }
-    ensures err { OnErr result (take (length out.old.items) out.new.items ≡ out.old.items) }
+/// Puts a list, which is the number of its items and the items, and tells the place behind it.
+fn write_list<T: WriteFields>(items: &[T], out: &mut Vec<u8>, at: usize) -> usize
+    requires fits { Fits (list_of T.fields items.now) }
+    requires room { at + length (text_of (list_of T.fields items.now)) ≤ length out.old.items }
+    ensures bytes { out.new.items ≡ written out.old.items at (text_of (list_of T.fields items.now)) }
+    ensures behind { result ≡ at + length (text_of (list_of T.fields items.now)) }
 {
-    (items.len() as u32).write(out)?;
-    write_items(items, out)
+    let behind = (items.len() as u32).write(out, at);
+    write_items(items, out, behind)
 }
 
-/// How many bytes a list takes.
+/// How many bytes a list takes, or 2^64 - 1 where these are more.
 fn list_length<T: WriteFields>(items: &[T]) -> u64
-    requires { length (text_of (list_of T.fields items.now)) < 2 ^ 64 }
-    ensures { result ≡ length (text_of (list_of T.fields items.now)) }
+    ensures { result ≡ min (length (text_of (list_of T.fields items.now))) 18446744073709551615 }
 {
-    4 + items_length(items)
+    items_length(items).saturating_add(4)
 }
 
 impl WriteFields for Ids {
     ghost fields = { list_of id_fields };
 
-    fn write(&self, out: &mut Vec<u8>) -> Result<(), AllocError> {
-        write_list(self.items(), out)
+    fn write(&self, out: &mut Vec<u8>, at: usize) -> usize {
+        write_list(self.items(), out, at)
     }
 
     fn length(&self) -> u64 {
@@ -66,8 +67,8 @@ impl WriteFields for Ids {
 impl WriteFields for Numbers {
     ghost fields = { list_of word_fields };
 
-    fn write(&self, out: &mut Vec<u8>) -> Result<(), AllocError> {
-        write_list(self.items(), out)
+    fn write(&self, out: &mut Vec<u8>, at: usize) -> usize {
+        write_list(self.items(), out, at)
     }
 
     fn length(&self) -> u64 {
@@ -78,8 +79,8 @@ impl WriteFields for Numbers {
 impl WriteFields for Barriers {
     ghost fields = { list_of barrier_fields };
 
-    fn write(&self, out: &mut Vec<u8>) -> Result<(), AllocError> {
-        write_list(self.items(), out)
+    fn write(&self, out: &mut Vec<u8>, at: usize) -> usize {
+        write_list(self.items(), out, at)
     }
 
     fn length(&self) -> u64 {
@@ -90,8 +91,8 @@ impl WriteFields for Barriers {
 impl WriteFields for BufferRegions {
     ghost fields = { list_of buffer_region_fields };
 
-    fn write(&self, out: &mut Vec<u8>) -> Result<(), AllocError> {
-        write_list(self.items(), out)
+    fn write(&self, out: &mut Vec<u8>, at: usize) -> usize {
+        write_list(self.items(), out, at)
     }
 
     fn length(&self) -> u64 {
@@ -102,8 +103,8 @@ impl WriteFields for BufferRegions {
 impl WriteFields for ImageRegions {
     ghost fields = { list_of image_region_fields };
 
-    fn write(&self, out: &mut Vec<u8>) -> Result<(), AllocError> {
-        write_list(self.items(), out)
+    fn write(&self, out: &mut Vec<u8>, at: usize) -> usize {
+        write_list(self.items(), out, at)
     }
 
     fn length(&self) -> u64 {
@@ -114,8 +115,8 @@ impl WriteFields for ImageRegions {
 impl WriteFields for MixedRegions {
     ghost fields = { list_of mixed_region_fields };
 
-    fn write(&self, out: &mut Vec<u8>) -> Result<(), AllocError> {
-        write_list(self.items(), out)
+    fn write(&self, out: &mut Vec<u8>, at: usize) -> usize {
+        write_list(self.items(), out, at)
     }
 
     fn length(&self) -> u64 {
@@ -126,8 +127,8 @@ impl WriteFields for MixedRegions {
 impl WriteFields for Submits {
     ghost fields = { list_of submit_fields };
 
-    fn write(&self, out: &mut Vec<u8>) -> Result<(), AllocError> {
-        write_list(self.items(), out)
+    fn write(&self, out: &mut Vec<u8>, at: usize) -> usize {
+        write_list(self.items(), out, at)
     }
 
     fn length(&self) -> u64 {
@@ -138,8 +139,8 @@ impl WriteFields for Submits {
 impl WriteFields for Presents {
     ghost fields = { list_of present_fields };
 
-    fn write(&self, out: &mut Vec<u8>) -> Result<(), AllocError> {
-        write_list(self.items(), out)
+    fn write(&self, out: &mut Vec<u8>, at: usize) -> usize {
+        write_list(self.items(), out, at)
     }
 
     fn length(&self) -> u64 {

@@ -3,18 +3,17 @@ ghost use Rattle.gfx_model.specs.Spelling.{barrier_fields, buffer_region_fields,
 
 use crate::write::WriteFields;
 use gfx_types::{Barrier, BufferRegion, ImageRegion, MixedRegion, Present, Submit, in_order};
-use std::alloc::AllocError;
 
 impl WriteFields for Barrier {
     ghost fields = { barrier_fields };
 
-    fn write(&self, out: &mut Vec<u8>) -> Result<(), AllocError> {
+    fn write(&self, out: &mut Vec<u8>, at: usize) -> usize {
         let Barrier {
             image,
             before,
             after,
         } = *self;
-        in_order!(image, before, after).write(out)
+        in_order!(image, before, after).write(out, at)
     }
 
     fn length(&self) -> u64 {
@@ -30,9 +29,9 @@ impl WriteFields for Barrier {
 impl WriteFields for BufferRegion {
     ghost fields = { buffer_region_fields };
 
-    fn write(&self, out: &mut Vec<u8>) -> Result<(), AllocError> {
+    fn write(&self, out: &mut Vec<u8>, at: usize) -> usize {
         let BufferRegion { from, to, size } = *self;
-        in_order!(from, to, size).write(out)
+        in_order!(from, to, size).write(out, at)
     }
 
     fn length(&self) -> u64 {
@@ -44,7 +43,7 @@ impl WriteFields for BufferRegion {
 impl WriteFields for ImageRegion {
     ghost fields = { image_region_fields };
 
-    fn write(&self, out: &mut Vec<u8>) -> Result<(), AllocError> {
+    fn write(&self, out: &mut Vec<u8>, at: usize) -> usize {
         let ImageRegion {
             from_x,
             from_y,
@@ -53,7 +52,7 @@ impl WriteFields for ImageRegion {
             width,
             height,
         } = *self;
-        in_order!(from_x, from_y, to_x, to_y, width, height).write(out)
+        in_order!(from_x, from_y, to_x, to_y, width, height).write(out, at)
     }
 
     fn length(&self) -> u64 {
@@ -72,7 +71,7 @@ impl WriteFields for ImageRegion {
 impl WriteFields for MixedRegion {
     ghost fields = { mixed_region_fields };
 
-    fn write(&self, out: &mut Vec<u8>) -> Result<(), AllocError> {
+    fn write(&self, out: &mut Vec<u8>, at: usize) -> usize {
         let MixedRegion {
             offset,
             row,
@@ -82,7 +81,7 @@ impl WriteFields for MixedRegion {
             width,
             height,
         } = *self;
-        in_order!(offset, row, rows, x, y, width, height).write(out)
+        in_order!(offset, row, rows, x, y, width, height).write(out, at)
     }
 
     fn length(&self) -> u64 {
@@ -102,9 +101,9 @@ impl WriteFields for MixedRegion {
 impl WriteFields for Present {
     ghost fields = { present_fields };
 
-    fn write(&self, out: &mut Vec<u8>) -> Result<(), AllocError> {
+    fn write(&self, out: &mut Vec<u8>, at: usize) -> usize {
         let Present { swapchain, index } = *self;
-        in_order!(swapchain, index).write(out)
+        in_order!(swapchain, index).write(out, at)
     }
 
     fn length(&self) -> u64 {
@@ -116,8 +115,8 @@ impl WriteFields for Present {
 impl WriteFields for Submit {
     ghost fields = { submit_fields };
 
-    fn write(&self, out: &mut Vec<u8>) -> Result<(), AllocError> {
-        ((&self.waits, &self.cbs), &self.signals).write(out)
+    fn write(&self, out: &mut Vec<u8>, at: usize) -> usize {
+        ((&self.waits, &self.cbs), &self.signals).write(out, at)
     }
 
     fn length(&self) -> u64 {

@@ -1,3 +1,4 @@
+pub mod Near
 pub mod Sizes
 pub mod Joined
 pub mod New

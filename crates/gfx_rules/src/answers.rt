@@ -1,12 +1,12 @@
 //! The answers that checks read, given by any type.
 
-ghost use Rattle.std.specs.Prelude.{◌≡◌, is_some, option_map, slice_get};
+ghost use Rattle.std.specs.Prelude.{◌≡◌, is_some, IfSome, option_map, slice_get};
 ghost use Rattle.gfx_model.specs.Questions.{range_of};
 ghost use Rattle.gfx_model.specs.Views as views;
 ghost use Rattle.gfx_model.specs.Checks as words;
 ghost use Rattle.gfx_rules.specs.Turns.{AreFew, IsFirstDiffering};
 
-use gfx_types::{Kind, MapRange, Submits};
+use gfx_types::{Kind, MapRange, Resource, Submits};
 
 /// What checks ask of a capture. Sizes, offsets and lengths are in bytes.
 pub trait Answers {
@@ -94,6 +94,13 @@ pub trait Answers {
     /// Whether a resource is bound to live memory, or is an image of a live swapchain.
     fn is_usable(&self, id: u64) -> bool
         ensures { result ≡ views.is_usable (view self.now) id };
+
+    /// What a command asks of a live object of this kind.
+    fn resource(&self, kind: Kind, id: u64) -> Option<Resource>
+        ensures live { is_some result ≡ views.is_live (view self.now) kind id }
+        ensures parent { IfSome result (λ r. r.parent ≡ views.parent_of (view self.now) id) }
+        ensures usage { IfSome result (λ r. r.usage ≡ views.usage_of (view self.now) id) }
+        ensures usable { IfSome result (λ r. r.is_usable ≡ views.is_usable (view self.now) id) };
 
     /// How many bytes an InitImage of this image has to have.
     fn wanted_by(&self, image: u64) -> u64

@@ -8,25 +8,10 @@ ghost use Rattle.gfx_model.specs.Views as views;
 
 use crate::answers::Answers;
 use crate::broken::{broken, first_broken};
-use crate::checks::{Check, unless};
-use crate::lists::near_fault;
+use crate::checks::Check;
+use crate::resources::resource_fault;
 use crate::values::{both, is_barrier, is_mixed, sum};
 use gfx_types::{Barrier, BufferRegion, Fault, ImageRegion, Kind, MixedRegion};
-
-/// The fault of one image of a barrier, by the device of the command buffer.
-#[tactic(auto, unfolding(gfx_model::specs::Checks::broken))]
-fn resource_fault<A: Answers>(answers: &A, cb: u64, device: u64, image: u64) -> Option<Fault>
-    requires { device ≡ views.device_of (A.view answers.now) cb }
-    ensures { result ≡ words.first_broken (A.view answers.now) (table.res kind.Image cb image) }
-{
-    if !answers.is_live(Kind::Image, image) {
-        return Some(Fault::NotLive);
-    }
-    if let Some(fault) = near_fault(answers, cb, device, image) {
-        return Some(fault);
-    }
-    unless(answers.is_usable(image), Fault::NotBound)
-}
 
 /// The fault of the first item that is no usable image near the command buffer.
 pub fn resource_each<A: Answers>(answers: &A, cb: u64, items: &[Barrier]) -> Option<Fault>
@@ -34,7 +19,7 @@ pub fn resource_each<A: Answers>(answers: &A, cb: u64, items: &[Barrier]) -> Opt
 {
     let device = answers.device_of(cb);
     'items: for item in items {
-        if let Some(fault) = resource_fault(answers, cb, device, item.image) {
+        if let Some(fault) = resource_fault(answers, Kind::Image, cb, device, item.image) {
             return Some(fault);
         }
     }

@@ -12,7 +12,7 @@ use crate::answers::Answers;
 use crate::checks::{first, unless};
 use crate::fits::{barriers_fit, clear_fits, fill_fits, update_fits};
 use crate::items::{barrier_values, resource_each};
-use crate::resources::{command_fault, end_fault, resource_fault, usage_fault};
+use crate::resources::{command_fault, end_fault, used_fault};
 use crate::spans::span;
 use crate::values::{both, either, is_either, sum};
 use gfx_types::limits::{MAX_BARRIERS, MAX_UPDATE};
@@ -53,10 +53,7 @@ fn fill_front<A: Answers>(
     if let Some(fault) = command_fault(answers, cb) {
         return Some(fault);
     }
-    if let Some(fault) = resource_fault(answers, Kind::Buffer, cb, buffer) {
-        return Some(fault);
-    }
-    if let Some(fault) = usage_fault(answers, buffer, 2) {
+    if let Some(fault) = used_fault(answers, Kind::Buffer, cb, buffer, 2) {
         return Some(fault);
     }
     unless(fine, Fault::BadValue)
@@ -100,10 +97,7 @@ fn update_front<A: Answers>(
     if let Some(fault) = command_fault(answers, cb) {
         return Some(fault);
     }
-    if let Some(fault) = resource_fault(answers, Kind::Buffer, cb, buffer) {
-        return Some(fault);
-    }
-    if let Some(fault) = usage_fault(answers, buffer, 2) {
+    if let Some(fault) = used_fault(answers, Kind::Buffer, cb, buffer, 2) {
         return Some(fault);
     }
     if !fine {
@@ -144,10 +138,7 @@ fn clear_front<A: Answers>(answers: &A, cb: u64, image: u64, layout: u32) -> Opt
     if let Some(fault) = command_fault(answers, cb) {
         return Some(fault);
     }
-    if let Some(fault) = resource_fault(answers, Kind::Image, cb, image) {
-        return Some(fault);
-    }
-    if let Some(fault) = usage_fault(answers, image, 2) {
+    if let Some(fault) = used_fault(answers, Kind::Image, cb, image, 2) {
         return Some(fault);
     }
     if !is_either(layout, 7, 1) {

@@ -36,10 +36,11 @@ fn copied_fault<A: Answers>(
     if let Some(fault) = command_fault(answers, cb) {
         return Some(fault);
     }
-    if let Some(fault) = resource_fault(answers, of, cb, source) {
+    let device = answers.device_of(cb);
+    if let Some(fault) = resource_fault(answers, of, cb, device, source) {
         return Some(fault);
     }
-    if let Some(fault) = resource_fault(answers, to, cb, target) {
+    if let Some(fault) = resource_fault(answers, to, cb, device, target) {
         return Some(fault);
     }
     first(

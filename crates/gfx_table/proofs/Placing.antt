@@ -126,12 +126,18 @@ in_take ids n i id at = let a = get_take ids n i in (grind (arith, nat_tests, a,
 pub apart_take : (ids : List ℕ) (n : ℕ) → StandApart ids → StandApart (take n ids)
 apart_take ids n apart i j id at_i at_j = apart i j id (in_take ids n i id at_i).1 (in_take ids n j id at_j).1
 
+-- the next id isn't listed so far
+pub not_before : (ids : List ℕ) (i d : ℕ) → StandApart ids → i < length ids → is_listed (get_or ids i d) (take i ids) ≡ false
+not_before ids i d apart lt =
+    let x = get_or ids i d in
+    let here = slice_get-get_or ids i d lt in
+    unlisted (take i ids) x (λ p at. let its = in_take ids i p x at in let same = apart p i x its.1 here in let low = its.0 in absurd (omega (arith, same, low))) (is_listed x (take i ids)) refl
+
 -- the next id is placed behind those so far
 pub more_placed : (ids : List ℕ) (i d : ℕ) → StandApart ids → i < length ids → map.insert (places_in (take i ids)) (get_or ids i d) i ≡ places_in (take (i + 1) ids)
 more_placed ids i d apart lt =
     let x = get_or ids i d in
-    let here = slice_get-get_or ids i d lt in
-    let none = unlisted (take i ids) x (λ p at. let its = in_take ids i p x at in let same = apart p i x its.1 here in let low = its.0 in absurd (omega (arith, same, low))) (is_listed x (take i ids)) refl in
+    let none = not_before ids i d apart lt in
     let many : length (take i ids) ≡ i = let a = length-take i ids in omega (arith, a, lt) in
     let put = pushed (take i ids) x (apart_take ids i apart) none in
     ap (map.insert (places_in (take i ids)) x) (sym many) ∙ one_way _ _ _ put ∙ ap places_in (sym (take_more ids i d lt))

@@ -221,6 +221,26 @@ module _ {X : Type 0} where
           let has : is_some (row_in (slot_at slots s) id) ≡ true = ap is_some (has_row (slot_at slots s) id e some (can.own e some)) in
           to (stands_there slots s id is.placed.once has) (missing_there mask d slots m is s id has)
 
+  -- a row that isn't there stands in no slot
+  pub new_nowhere : (mask : ℕ) (d : Bool) (slots : List (Option (ℕ × X))) (m : FinMap nat_cmp X) → IsSlotted mask d slots m → (id : ℕ) → map.get (joined (filled slots) m) id ≡ None
+      → (slot : ℕ) → row_in (slot_at slots slot) id ≡ None
+  new_nowhere mask d slots m is id new slot = by (row_in (slot_at slots slot) id) refl
+    where
+      by : (o : Option X) → row_in (slot_at slots slot) id ≡ o → row_in (slot_at slots slot) id ≡ None
+      by None none = none
+      by (Some row) there = let got = got_there mask d slots m is slot id (ap is_some there) in absurd (grind (arith, there, got, new))
+
+  -- so it may be put into a free slot of its group
+  pub may_take : (mask : ℕ) (d : Bool) (slots : List (Option (ℕ × X))) (m : FinMap nat_cmp X) → IsSlotted mask d slots m → (first s id : ℕ) → first ≡ bit_and id mask
+      → map.get (joined (filled slots) m) id ≡ None → IsInGroup first s → s < length slots → slot_at slots s ≡ None → CanTake slots m first id s
+  may_take mask d slots m is first s id at new group inside free = record {
+    group = group;
+    inside = inside;
+    own = λ e some. absurd (grind (arith, free, some));
+    free = λ _ slot within. new_nowhere mask d slots m is id new slot;
+    missing = λ _. got_rest mask d slots m is first id at (λ slot within. new_nowhere mask d slots m is id new slot) ∙ new;
+  }
+
   -- a row is put into the rest
   pub put_rest : (mask : ℕ) (d : Bool) (slots : List (Option (ℕ × X))) (m : FinMap nat_cmp X) (first id : ℕ) (row : X) → IsSlotted mask d slots m → first ≡ bit_and id mask → IsNowhere slots first id
       → IsSlotted mask d slots (map.insert m id row) × (joined (filled slots) (map.insert m id row) ≡ map.insert (joined (filled slots) m) id row)

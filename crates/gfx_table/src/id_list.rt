@@ -91,7 +91,7 @@ impl IdList {
         ensures spare { self.old.spare ≤ self.new.spare + 1 }
     {
         if self.is_placed {
-            self.places.set(id, self.ids.len());
+            self.places.insert(id, self.ids.len());
         }
         self.ids.push_reserved(id);
     }
@@ -145,7 +145,7 @@ fn place_all(ids: &[u64], places: &mut Slotted<usize>)
     ensures spare { places.old.spare ≤ places.new.spare + length ids.now }
 {
     'ids: for place in 0..ids.len() {
-        places.set(ids[place], place);
+        places.insert(ids[place], place);
     }
 }
 

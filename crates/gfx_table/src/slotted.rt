@@ -126,6 +126,23 @@ impl<V: Copy> Slotted<V> {
         }
     }
 
+    /// Puts a row under a new id, which isn't looked for. It takes one of the spare places.
+    pub fn insert(&mut self, id: u64, row: V)
+        requires new { map.get self.old.map id ≡ None }
+        requires room { 1 ≤ self.old.spare }
+        ensures map { self.new.map ≡ map.insert self.old.map id row }
+        ensures spare { self.old.spare ≤ self.new.spare + 1 }
+    {
+        let first = first_of(id, self.mask);
+        match free_in(&self.slots, first, id) {
+            Some(slot) => {
+                put(&mut self.slots, &mut self.taken, slot, (id, row));
+                self.displaced = displaces(self.displaced, slot, first, id);
+            }
+            None => self.rest.set(id, row),
+        }
+    }
+
     /// Takes the row under the id out.
     pub fn remove(&mut self, id: u64) -> Option<V>
         ensures value { result ≡ map.get self.old.map id }
@@ -145,7 +162,7 @@ impl<V: Copy> Slotted<V> {
 // The bits that tell a group, where so many slots are wanted.
 fn mask_over(slots: usize) -> u64 {
     let all = u64::MAX
-        .checked_shr((slots as u64).leading_zeros())
+        .checked_shr((slots as u64).saturating_sub(1).leading_zeros())
         .unwrap_or(0);
     all - all % GROUP as u64
 }

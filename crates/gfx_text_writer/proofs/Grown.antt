@@ -1,7 +1,8 @@
 -- Text that grows at its end.
-use Rattle.std.proofs.Common.{◌≡◌, ℕ, Bool, true, false, cond, ◌&&◌, ◌∷◌, ◌++◌, List, [], length, take, refl, sym, ap, ◌∙◌, append-nil, append_assoc}
+use Rattle.std.proofs.Common.{◌≡◌, ℕ, Bool, true, false, cond, ◌&&◌, ◌∷◌, ◌++◌, List, [], length, take, refl, sym, ap, ◌∙◌, arith, append-nil, append_assoc, length-append}
 use Rattle.std.specs.List.{join_with_byte}
 use Rattle.std.specs.Prelude.{map, flat_map, codes, Result, OnOk, OnErr}
+use Rattle.std.proofs.lemmas.List.{take-append-le, take-take, take_all}
 use Rattle.std.proofs.lemmas.Result.{on_ok_weaker, on_err_weaker}
 use Rattle.gfx_types.specs.declared.effect.Meta.{Meta}
 use Rattle.gfx_model.specs.Events.{event_of_meta}
@@ -9,7 +10,6 @@ use Rattle.gfx_model.specs.Fields.{Named, Value, is_made, named_fields}
 use Rattle.gfx_script_model.specs.FieldText.{field_text, value_text}
 use Rattle.gfx_text_grammar.specs.Reading.{Style}
 use Rattle.gfx_text_grammar.specs.FieldReading.{Left, with_fields, made_text, nothing}
-use Rattle.gfx_params.proofs.Texts.{front_stays}
 use Rattle.gfx_text_writer.specs.Shown.{behind_spaces, token_text, tokens_text}
 
 -- items with a comma between each two: the first, and each other one behind a comma
@@ -17,7 +17,15 @@ pub join_first : {X : Type 0} (text : X → List ℕ) (x : X) (xs : List X) → 
 join_first text x [] = sym (append-nil (text x))
 join_first {X} text x (y ∷ ys) = ap (λ (z : List ℕ). text x ++ (44 ∷ z)) (join_first text y ys)
 
--- what stood at the front stays there, where a call that failed left what grew behind it
+-- what stood at the front stays there, where what grew behind it stays
+pub front_stays : (old mid more new : List ℕ) → mid ≡ old ++ more → take (length mid) new ≡ mid → take (length old) new ≡ old
+front_stays old mid more new grown kept =
+    sym (take-take (length old) (length mid) new (omega (arith, ap length grown, length-append old more)))
+    ∙ ap (take (length old)) (kept ∙ grown)
+    ∙ take-append-le (length old) old more (omega arith)
+    ∙ take_all (length old) old (omega arith)
+
+-- and so where a call that failed left what grew behind it
 pub err_stays : {T E : Type 0} (r : Result T E) (old mid more new : List ℕ) → mid ≡ old ++ more → OnErr r (take (length mid) new ≡ mid)
     → OnErr r (take (length old) new ≡ old)
 err_stays r old mid more new grown kept = on_err_weaker r (λ h. front_stays old mid more new grown h) kept

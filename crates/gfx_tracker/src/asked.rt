@@ -9,7 +9,7 @@ use crate::sought;
 use crate::state::State;
 use gfx_commands::CbState;
 use gfx_rules::Answers;
-use gfx_types::{Effect, Fault, Kind, MapRange, Submits};
+use gfx_types::{Effect, Fault, Kind, MapRange, Resource, Submits};
 
 impl Answers for State {
     ghost view = { state_answers };
@@ -95,6 +95,10 @@ impl Answers for State {
 
     fn is_usable(&self, id: u64) -> bool {
         self.registry.objects.window(id).is_some()
+    }
+
+    fn resource(&self, kind: Kind, id: u64) -> Option<Resource> {
+        self.registry.objects.resource(kind, id)
     }
 
     fn wanted_by(&self, image: u64) -> u64 {

@@ -1,7 +1,7 @@
 use Rattle.std.proofs.Common.{ℕ, ◌+◌, ◌*◌, List, ◌∷◌, ◌++◌, ap, ◌∙◌}
 use Rattle.std.proofs.lemmas.Result.{err_from_is_err_and}
 use Rattle.gfx_feature_model.specs.Listing.{option_texts}
-use Rattle.gfx_params.proofs.Texts.{front_stays}
+use Rattle.gfx_text_writer.proofs.Grown.{front_stays}
 use Rattle.gfx_text_writer.specs.Shown.{behind_spaces}
 use Rattle.gfx_listing.specs.Lines.{option_text}
 use Rattle.gfx_listing.proofs.Heads.{options_grown}

@@ -1,7 +1,7 @@
 use Rattle.std.proofs.Common.{◌≡◌, ℕ, List, ◌++◌, ◌∷◌, [], take, ap, ◌∙◌, append_assoc}
 use Rattle.std.specs.Prelude.{flat_map}
 use Rattle.std.proofs.lemmas.Result.{err_from_is_err_and}
-use Rattle.gfx_params.proofs.Texts.{front_stays}
+use Rattle.gfx_text_writer.proofs.Grown.{front_stays}
 use Rattle.gfx_text_writer.proofs.show_items.show_behind.Goals as goal
 
 pub returns-in_err-show-clause-err : goal.returns-in_err-show-clause-err

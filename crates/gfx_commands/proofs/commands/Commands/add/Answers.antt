@@ -20,8 +20,8 @@ invariant_of-self-2 c =
     let k : Command = record { call_id = c.call_id.result; end = c.len.result } in
     let n : Inside = record { commands = c.push_reserved.new.self; fields = c.encode.new.out; uses = c.add.new.self } in
     kept_added s n k (spelling 1 e) e c.self.invariant (c.push_reserved.ensures.items ∙ ap (λ xs. xs ++ k ∷ []) c.reserve-2.ensures.items) c.in_ok-encode.ensures.ok (omega (arith, c.len.ensures, c.encode.new.out.ok))
-    (its_event k.call_id (spelling 1 e) e c.call_id.ensures.id c.call_id.ensures.kind c.requires refl c.spelled_is_read.ensures)
-    (are_fields k.call_id (spelling 1 e) e c.call_id.ensures.id c.call_id.ensures.kind c.requires refl c.spelled_is_read.ensures)
+    (its_event k.call_id (spelling 1 e) e c.call_id.ensures.id c.call_id.ensures.kind c.requires.spelled refl c.spelled_is_read.ensures)
+    (are_fields k.call_id (spelling 1 e) e c.call_id.ensures.id c.call_id.ensures.kind c.requires.spelled refl c.spelled_is_read.ensures)
     (c.add.ensures (flat_map resources_of events) (flat_map layouts_of events)
     (index_same s.uses.table.map _ s.uses.agrees _ (flat_map resources_of events) (flat_map layouts_of events) c.reserve.ensures.map c.reserve.ensures.agrees c.self.invariant.index))
 
@@ -32,5 +32,5 @@ returns-clause-ok c =
     let k : Command = record { call_id = c.call_id.result; end = c.len.result } in
     let n : Inside = record { commands = c.push_reserved.new.self; fields = c.encode.new.out; uses = c.add.new.self } in
     events_added s n k (spelling 1 e) e c.self.invariant (c.push_reserved.ensures.items ∙ ap (λ xs. xs ++ k ∷ []) c.reserve-2.ensures.items) c.in_ok-encode.ensures.ok (omega (arith, c.len.ensures, c.encode.new.out.ok))
-    (its_event k.call_id (spelling 1 e) e c.call_id.ensures.id c.call_id.ensures.kind c.requires refl c.spelled_is_read.ensures)
+    (its_event k.call_id (spelling 1 e) e c.call_id.ensures.id c.call_id.ensures.kind c.requires.spelled refl c.spelled_is_read.ensures)
     ∙ ap (λ ss. events_in ss ++ e ∷ []) c.self.view_is

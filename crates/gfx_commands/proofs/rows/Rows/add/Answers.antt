@@ -1,16 +1,18 @@
-use Rattle.std.proofs.Common.{◌≡◌, ◌++◌, ◌∷◌, [], length, is_some, refl, ap, sym, ◌∙◌, arith, length-append}
+use Rattle.std.proofs.Common.{◌≡◌, ◌++◌, ◌∷◌, [], Some, length, is_some, refl, ap, sym, ◌∙◌, arith, length-append}
 use Rattle.std.specs.FinMap as map
 use Rattle.std.proofs.lemmas.Result.{err_from_is_err_and}
 use Rattle.gfx_model.specs.Events.{event_of_call}
+use Rattle.gfx_model.specs.Steps.{resources_of}
 use Rattle.gfx_model.specs.Questions.{Buffer}
 use Rattle.gfx_model.specs.Views.{commands_in, bytes_in}
 use Rattle.gfx_model.specs.Checks.{is_recording}
 use Rattle.gfx_commands.specs.declared.recording.Recording.{Recording}
-use Rattle.gfx_commands.specs.Recording.{state_of, buffer_of}
+use Rattle.gfx_commands.specs.Recording.{state_of, buffer_of, names}
 use Rattle.gfx_commands.specs.Commands.{events_in, bytes_of}
 use Rattle.gfx_commands.specs.Recordings.{buffers, commands_total, bytes_total}
 use Rattle.gfx_commands.proofs.Added.{bytes_of-more}
-use Rattle.gfx_commands.proofs.Buffers.{recording_kept, recording_row, changed}
+use Rattle.gfx_commands.proofs.Buffers.{found, recording_kept, recording_row, changed}
+use Rattle.gfx_commands.proofs.Places.{same_all}
 use Rattle.gfx_commands.proofs.Counting.{counted_over, put_back}
 use Rattle.gfx_commands.proofs.rows.Rows.add.Goals as goal
 
@@ -19,6 +21,13 @@ unreachable-requires c =
     let kept = recording_kept c.args.self.now.map c.args.cb c.requires.recording in
     let none = ap is_some (c.in_default.ensures.value ∙ ap (λ s. map.get s.map c.args.cb) c.self.view_is) in
     absurd (grind (arith, kept, none))
+
+pub add-requires-clause-known : goal.add-requires-clause-known
+add-requires-clause-known c = λ known.
+    let m = c.args.self.now.map in
+    let row = c.in-Some.row.now in
+    let at = found m c.args.cb (Some row) (ap (λ s. map.get s.map c.args.cb) (sym c.self.view_is) ∙ sym c.in-Some.ensures.value) in
+    sym (same_all (λ x. names x (buffers m c.args.cb)) (λ x. names x (buffer_of row)) (λ x. ap (names x) at) (resources_of (event_of_call c.args.call.now))) ∙ c.requires.known known
 
 pub invariant_of-self : goal.invariant_of-self
 invariant_of-self c =

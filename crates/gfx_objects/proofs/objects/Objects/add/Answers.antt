@@ -27,6 +27,11 @@ add_to-requires-clause-few c surface its =
     let all = c.self.invariant.sound.few in
     omega (arith, is, few, all)
 
+pub insert-requires-2-clause-new : goal.insert-requires-2-clause-new
+insert-requires-2-clause-new c =
+    let s = c.self.inside in
+    unused_fresh (kept_of s) c.self.invariant.sound c.args.object.id (ap (λ k. holds k.used c.args.object.id) c.self.view_is ∙ c.requires.unused)
+
 pub invariant_of-self : goal.invariant_of-self
 invariant_of-self c =
     let s = c.self.inside in
@@ -39,17 +44,17 @@ invariant_of-self c =
     let few : map.len s.rows.map < max_live_objects = let a = ap (λ k. map.len k.rows) c.self.view_is in let b = c.requires.few in omega (arith, a, b) in
     let small : bytes_in s.rows.map + detail_bytes (detail_of o.detail) ≤ max_live_bytes = let a = ap (λ k. bytes_in k.rows) c.self.view_is in let b = c.requires.small in omega (arith, a, b) in
     record {
-      sound = sound_created (kept_of s) (record { rows = c.set.new.self.map; used = c.insert.new.self; owned = c.put_in.new.groups.sets.map; spare = s.room - 1 }) o.id o
-          c.set.ensures.map unused c.insert.ensures.ids c.requires.row c.requires.unbound few small c.self.invariant.sound;
-      indexed = indexed_created s.rows.map c.set.new.self.map (count_of s.children.counts.map) (count_of c.add.new.self.counts.map) s.bytes (s.bytes + c.bytes.result) s.count (s.count + 1) o.id o
-          c.set.ensures.map none c.add.ensures.counts (ap (λ n. s.bytes + n) c.bytes.ensures) refl c.self.invariant.indexed;
-      grouped = grouped_created s.rows.map c.set.new.self.map (is_member s.owned.sets.map) (is_member c.put_in.new.groups.sets.map)
+      sound = sound_created (kept_of s) (record { rows = c.insert-2.new.self.map; used = c.insert.new.self; owned = c.put_in.new.groups.sets.map; spare = s.room - 1 }) o.id o
+          c.insert-2.ensures.map unused c.insert.ensures.ids c.requires.row c.requires.unbound few small c.self.invariant.sound;
+      indexed = indexed_created s.rows.map c.insert-2.new.self.map (count_of s.children.counts.map) (count_of c.add.new.self.counts.map) s.bytes (s.bytes + c.bytes.result) s.count (s.count + 1) o.id o
+          c.insert-2.ensures.map none c.add.ensures.counts (ap (λ n. s.bytes + n) c.bytes.ensures) refl c.self.invariant.indexed;
+      grouped = grouped_created s.rows.map c.insert-2.new.self.map (is_member s.owned.sets.map) (is_member c.put_in.new.groups.sets.map)
           (is_member s.resting.sets.map) (is_member s.resting.sets.map) (count_of s.swapchains.counts.map) (count_of c.add_to.new.self.counts.map) o.id o
-          c.self.invariant.grouped c.set.ensures.map none c.requires.unbound
+          c.self.invariant.grouped c.insert-2.ensures.map none c.requires.unbound
           (λ g x. c.put_in.ensures.members g x ∙ ap (λ its. (is_at g its && o.id == x) || is_member s.owned.sets.map g x) c.owner-owner.ensures) refl
           (λ g. c.add_to.ensures.counts g ∙ ap (λ its. count_of s.swapchains.counts.map g + (if is_at g its then 1 else 0)) c.surface-surface.ensures);
       has_room = record {
-        rows = let a = room.rows in let b = c.set.ensures.spare in omega (arith, a, b, one, here);
+        rows = let a = room.rows in let b = c.insert-2.ensures.spare in omega (arith, a, b, one, here);
         used = let a = room.used in let b = c.insert.ensures.spare in omega (arith, a, b, one, here);
         children = let a = room.children in let b = c.add.ensures.room in omega (arith, a, b, one, here);
         swapchains = let a = room.swapchains in let b = c.add_to.ensures.room in omega (arith, a, b, one, here);

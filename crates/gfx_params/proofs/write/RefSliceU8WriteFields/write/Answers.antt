@@ -1,0 +1,15 @@
+use Rattle.std.proofs.Common.{◌≡◌, ◌∷◌, [], ◌++◌, length, sym, ap, ◌∙◌, arith}
+use Rattle.std.proofs.lemmas.List.{append-nil}
+use Rattle.gfx_model.specs.Spelling.{id}
+use Rattle.gfx_grammar.specs.Reads.{text_of}
+use Rattle.gfx_params.specs.Writes.{written}
+use Rattle.gfx_params.proofs.Writing.{written_on}
+use Rattle.gfx_params.proofs.write.RefSliceU8WriteFields.write.Goals as goal
+
+pub returns-clause-bytes : goal.returns-clause-bytes
+returns-clause-bytes c =
+    let bytes = c.args.self.now.now in
+    let count = text_of (id (length bytes) ∷ []) in
+    let on = written_on c.args.out.now.items c.args.at count bytes (let end = ap length (append-nil bytes) in omega (arith, c.requires.room, end)) in
+    c.set_bytes.ensures ∙ (λ i. written (c.write-behind.ensures.bytes i) (c.write-behind.ensures.behind i) bytes) ∙ on
+    ∙ ap (λ l. written c.args.out.now.items c.args.at (count ++ l)) (sym (append-nil bytes))
