@@ -21,7 +21,7 @@ use crate::kinds::number_of;
 use crate::least::least_of;
 use crate::object::{Binding, Detail, Object};
 use crate::tables::{move_to, put_in, reserve_each, take_from};
-use gfx_table::{Groups, Slotted, UsedIds};
+use gfx_table::{Groups, Stored, UsedIds};
 use gfx_types::{Kind, MapRange, WantMemory};
 use std::alloc::{AllocError, Global};
 use std::marker::Model;
@@ -32,7 +32,7 @@ const AHEAD: u32 = 64;
 /// The live objects of a capture, and all ids that were ever used.
 #[derive(Drop)]
 pub struct Objects {
-    rows: Slotted<Object>,
+    rows: Stored<Object>,
     used: UsedIds,
     children: ChildCounts,
     // the live swapchains on each surface
@@ -70,7 +70,7 @@ impl Objects {
         ensures plain { answers result ≡ record (view.view_of []) { is_empty = false } }
     {
         Objects {
-            rows: Slotted::new(alloc),
+            rows: Stored::new(alloc),
             used: UsedIds::new(alloc),
             children: ChildCounts::new(alloc),
             swapchains: ChildCounts::new(alloc),

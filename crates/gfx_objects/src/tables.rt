@@ -6,12 +6,12 @@ ghost use Rattle.gfx_objects.specs.Children.{is_at, count_of};
 
 use crate::children::ChildCounts;
 use crate::object::Object;
-use gfx_table::{Groups, Slotted, UsedIds};
+use gfx_table::{Groups, Stored, UsedIds};
 use std::alloc::AllocError;
 
 /// Makes room in each of the tables.
 pub(crate) fn reserve_each(
-    rows: &mut Slotted<Object>,
+    rows: &mut Stored<Object>,
     used: &mut UsedIds,
     children: &mut ChildCounts,
     swapchains: &mut ChildCounts,

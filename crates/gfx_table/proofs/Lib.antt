@@ -7,3 +7,4 @@ mod Grouping
 mod Places
 mod Slotting
 pub mod Sorting
+mod Storing

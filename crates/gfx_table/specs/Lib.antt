@@ -1,6 +1,7 @@
 pub mod Slots
 pub mod Slotted
 pub mod Dense
+pub mod Stored
 pub mod IdList
 pub mod Groups
 pub mod Values

@@ -8,10 +8,12 @@ mod id_list;
 mod ordered;
 mod slotted;
 mod spill;
+mod stored;
 mod used;
 
 pub use dense::Dense;
 pub use groups::Groups;
 pub use ordered::Table;
 pub use slotted::Slotted;
+pub use stored::Stored;
 pub use used::UsedIds;

@@ -60,7 +60,10 @@ impl UsedIds {
         ensures ids { holds self.new ≡ (λ other. id == other || holds self.old other) }
         ensures spare { self.old.spare ≤ self.new.spare + 1 }
     {
-        let word = self.words.get(id / 64).copied().unwrap_or(0);
-        self.words.set(id / 64, word | 1 << (id % 64));
+        let bit = 1 << (id % 64);
+        match self.words.get(id / 64).copied() {
+            Some(word) => self.words.set(id / 64, word | bit),
+            None => self.words.insert(id / 64, bit),
+        }
     }
 }

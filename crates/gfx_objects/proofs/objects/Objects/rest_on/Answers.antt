@@ -44,7 +44,7 @@ invariant_of-self-2 c =
           ∙ ap (λ t. if c.args.id == x then t else is_member c.reserve.new.self.sets.map g x) (sym (ap (is_at g) c.requires.memory))
           ∙ ap (λ f. if c.args.id == x then is_at g (memory_of c.args.detail) else f g x) c.reserve.ensures.same) refl refl;
       has_room = record {
-        rows = let a = c.self.invariant.has_room.rows in let b = c.set.ensures.kept (rw some refl) in omega (arith, a, b);
+        rows = let a = c.self.invariant.has_room.rows in let b = c.set.ensures.spare in omega (arith, a, b);
         used = c.self.invariant.has_room.used;
         children = c.self.invariant.has_room.children;
         swapchains = c.self.invariant.has_room.swapchains;

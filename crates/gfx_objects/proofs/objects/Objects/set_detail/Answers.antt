@@ -37,7 +37,7 @@ invariant_of-self c =
           (count_of s.swapchains.counts.map) (count_of s.swapchains.counts.map) c.args.id o c.self.invariant.grouped n c.set.ensures.map some refl c.requires.parameters
           (stays_under (λ o. memory_of o.detail) s.rows.map c.args.id (is_member s.resting.sets.map) c.self.invariant.grouped.by_memory o n some same) refl refl;
       has_room = record {
-        rows = let a = c.self.invariant.has_room.rows in let b = c.set.ensures.kept (rw some refl) in omega (arith, a, b);
+        rows = let a = c.self.invariant.has_room.rows in let b = c.set.ensures.spare in omega (arith, a, b);
         used = c.self.invariant.has_room.used;
         children = c.self.invariant.has_room.children;
         swapchains = c.self.invariant.has_room.swapchains;
