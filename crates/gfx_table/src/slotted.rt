@@ -92,6 +92,17 @@ impl<V: Copy> Slotted<V> {
     pub fn get(&self, id: u64) -> Option<&V>
         ensures { option_copied result ≡ map.get self.now.map id }
     {
+        let own = own_of(id, first_of(id, self.mask));
+        match in_slot(&self.slots, id, own) {
+            Some(row) => Some(row),
+            None => self.get_anywhere(id),
+        }
+    }
+
+    // The row under the id, which most rows' own slot has answered for before.
+    fn get_anywhere(&self, id: u64) -> Option<&V>
+        ensures { option_copied result ≡ map.get self.now.map id }
+    {
         match slot_of(&self.slots, self.displaced, first_of(id, self.mask), id) {
             Some(slot) => in_slot(&self.slots, id, slot),
             None => self.rest.get(id),

@@ -1,8 +1,8 @@
-use Rattle.std.proofs.Common.{ap, ◌∙◌, arith}
+use Rattle.std.proofs.Common.{ap, ◌∙◌}
 use Rattle.std.specs.FinMap as map
 use Rattle.gfx_table.specs.Joined.{joined}
 use Rattle.gfx_table.specs.Slotted.{filled}
-use Rattle.gfx_table.proofs.Slotting.{got_rest, put_slot, put_rest, may_take, new_nowhere}
+use Rattle.gfx_table.proofs.Slotting.{put_slot, put_rest, may_take, new_nowhere}
 use Rattle.gfx_table.proofs.slotted.Slotted.insert.Goals as goal
 
 pub invariant_of-self : goal.invariant_of-self

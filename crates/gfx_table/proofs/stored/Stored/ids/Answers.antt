@@ -1,6 +1,5 @@
-use Rattle.std.proofs.Common.{ap, ◌∙◌}
+use Rattle.std.proofs.Common.{ap}
 use Rattle.std.specs.FinMap as map
-use Rattle.std.proofs.lemmas.Result.{on_ok_weaker}
 use Rattle.gfx_table.proofs.Storing.{stored_ids}
 use Rattle.gfx_table.proofs.stored.Stored.ids.Goals as goal
 

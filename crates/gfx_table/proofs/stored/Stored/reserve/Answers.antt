@@ -1,5 +1,4 @@
-use Rattle.std.proofs.Common.{refl, ap, ◌∙◌}
-use Rattle.std.specs.FinMap as map
+use Rattle.std.proofs.Common.{ap, ◌∙◌}
 use Rattle.gfx_table.specs.Stored.{stored}
 use Rattle.gfx_table.proofs.Storing.{same_stored}
 use Rattle.gfx_table.proofs.stored.Stored.reserve.Goals as goal
