@@ -6,14 +6,21 @@ use Rattle.std.specs.FinMap as map
 use Rattle.std.specs.FinMap.{FinMap}
 use Rattle.std.proofs.lemmas.Bool.Decides.{nat_tests}
 use Rattle.std.proofs.lemmas.Option.{same_Some}
+use Rattle.gfx_table.specs.declared.groups.Groups.{Groups}
 use Rattle.gfx_table.specs.Dense.{is_listed}
+use Rattle.gfx_table.specs.Groups.{is_member}
 use Rattle.gfx_table.specs.Values.{kept_rows, get-with_rows}
 use Rattle.gfx_table.specs.Rows.{same_rows}
 use Rattle.gfx_model.specs.Questions.{is_owned, goes_with, passes}
 use Rattle.gfx_objects.specs.declared.object.Object.{Object}
 use Rattle.gfx_objects.specs.Object.{made, is_owned_by}
+use Rattle.gfx_objects.specs.declared.objects.Objects.TheInside.{Inside}
+use Rattle.gfx_objects.specs.Children.{count_of}
+use Rattle.gfx_objects.specs.Inside.{kept_of, IsKept}
 use Rattle.gfx_objects.specs.Objects.{Kept, answers}
 use Rattle.gfx_objects.proofs.Index.{at_remove}
+use Rattle.gfx_objects.proofs.Kept.{sound_same}
+use Rattle.gfx_objects.proofs.Grouped.{grouped_same}
 
 -- ---- the ids that an object owns
 
@@ -92,3 +99,15 @@ all_ended id first now n left free itself =
         let here : map.get now x ≡ Some o = now_is ∙ ap Some was in
         let not_owned = free x o here in
         grind (arith, nat_tests, g, here, not_owned)
+
+-- all that is kept stays so where what is owned stands in other tables with the same members
+pub owned_anew : (s : Inside) (owned : Groups) → is_member owned.sets.map ≡ is_member s.owned.sets.map → IsKept s → IsKept (record s { owned = owned })
+unfolding answers
+owned_anew s owned same kept = record {
+  sound = sound_same (kept_of s) (kept_of (record s { owned = owned })) refl refl kept.sound;
+  indexed = kept.indexed;
+  grouped = grouped_same s.rows.map s.rows.map (is_member s.owned.sets.map) (is_member owned.sets.map) (is_member s.resting.sets.map) (is_member s.resting.sets.map)
+      (count_of s.swapchains.counts.map) (count_of s.swapchains.counts.map) refl same refl refl kept.grouped;
+  has_room = record { rows = kept.has_room.rows; used = kept.has_room.used; children = kept.has_room.children; swapchains = kept.has_room.swapchains };
+  noted = kept.noted;
+}

@@ -3,6 +3,7 @@
 
 mod children;
 mod detail;
+mod devices;
 mod kinds;
 mod least;
 mod object;

@@ -17,6 +17,7 @@ ghost use Rattle.gfx_objects.specs.Object.{made, detail_of, bound_of, memory_of,
 ghost use Rattle.gfx_objects.specs.Objects.{answers, of_owner, IsRow, RestsIn, IsSound, bytes_in};
 
 use crate::children::ChildCounts;
+use crate::devices::Noted;
 use crate::kinds::number_of;
 use crate::least::least_of;
 use crate::object::{Binding, Detail, Object};
@@ -46,6 +47,8 @@ pub struct Objects {
     count: u32,
     // how many creations there is room for
     room: u32,
+    // the device of the object that was noted last, until objects change
+    pub(crate) noted: Option<Noted>,
 }
 
 impl Model for Objects {
@@ -79,6 +82,7 @@ impl Objects {
             bytes: 0,
             count: 0,
             room: 0,
+            noted: None,
         }
     }
 
@@ -186,6 +190,7 @@ impl Objects {
             return Ok(());
         }
         let room = n.max(AHEAD);
+        self.noted = None;
         let Ok(()) = reserve_each(
             &mut self.rows,
             &mut self.used,
@@ -308,6 +313,7 @@ impl Objects {
     {
         let owner = object.owner();
         let surface = object.detail.surface();
+        self.noted = None;
         self.bytes += object.detail.bytes();
         self.count += 1;
         self.children.add(object.parent);
@@ -327,6 +333,7 @@ impl Objects {
         ensures used { self.new.used ≡ self.old.used }
         ensures spare { self.new.spare ≡ self.old.spare }
     {
+        self.noted = None;
         self.rows.set(id, Object { detail, ..object });
     }
 
@@ -351,6 +358,7 @@ impl Objects {
             return Err(WantMemory);
         }
         let before = object.detail.memory();
+        self.noted = None;
         move_to(&mut self.resting, before, memory, id);
         self.rows.set(id, Object { detail, ..object });
         Ok(())
@@ -362,6 +370,7 @@ impl Objects {
         ensures used { self.new.used ≡ self.old.used }
         ensures spare { self.new.spare ≡ self.old.spare }
     {
+        self.noted = None;
         if let Some(object) = self.rows.remove(id) {
             let owner = object.owner();
             let surface = object.detail.surface();

@@ -133,32 +133,6 @@ impl Objects {
         }
     }
 
-    /// The device that the parents of an object lead to, 0 where there is none.
-    pub fn device_of(&self, id: u64) -> u64
-        ensures { result ≡ view.device_of (answers self.now) id }
-    {
-        self.climb(3, id)
-    }
-
-    // The first device up the parents in so many steps, 0 where there is none.
-    fn climb(&self, steps: u32, id: u64) -> u64
-        ensures { result ≡ view.climb steps (answers self.now) id }
-    {
-        if steps == 0 {
-            return 0;
-        }
-        let parent = match self.get(id) {
-            Some(object) => {
-                if number_of(object.kind) == number_of(Kind::Device) {
-                    return id;
-                }
-                object.parent
-            }
-            None => 0,
-        };
-        self.climb(steps - 1, parent)
-    }
-
     /// What a command asks of a live object of this kind.
     pub fn resource(&self, kind: Kind, id: u64) -> Option<Resource>
         ensures live { is_some result ≡ view.is_live (answers self.now) kind id }

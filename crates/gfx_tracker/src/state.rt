@@ -208,6 +208,7 @@ impl State {
         ensures ok { OnOk result (state_answers self.new ≡ after (state_answers self.old) (records cb (event_of_call call.now))) }
         ensures err { OnErr result (state_answers self.new ≡ state_answers self.old) }
     {
+        self.registry.objects.note_device(cb);
         self.recordings.add(cb, call)?;
         self.is_empty = false;
         Ok(())

@@ -59,4 +59,5 @@ invariant_of-self c =
         children = let a = room.children in let b = c.add.ensures.room in omega (arith, a, b, one, here);
         swapchains = let a = room.swapchains in let b = c.add_to.ensures.room in omega (arith, a, b, one, here);
       };
+      noted = λ n is. absurd (grind (arith, is));
     }

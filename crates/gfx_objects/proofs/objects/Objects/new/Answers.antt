@@ -33,6 +33,7 @@ invariant_of-result c =
       grouped = no_groups c.new.result.map (is_member c.new-5.result.sets.map) (is_member c.new-6.result.sets.map) (count_of c.new-4.result.counts.map)
           c.new.ensures c.new-5.ensures c.new-6.ensures c.new-4.ensures;
       has_room = record { rows = omega arith; used = omega arith; children = omega arith; swapchains = omega arith };
+      noted = λ n is. absurd (grind (arith, is));
     }
 
 pub returns-clause-plain : goal.returns-clause-plain

@@ -1,16 +1,13 @@
-use Rattle.std.proofs.Common.{◌≡◌, ℕ, ◌<◌, ◌==◌, ◌&&◌, Bool, false, if◌then◌else◌, refl, ap, sym, ◌∙◌, arith}
+use Rattle.std.proofs.Common.{◌≡◌, ℕ, ◌<◌, ◌==◌, ◌&&◌, Bool, false, if◌then◌else◌, ap, sym, ◌∙◌, arith}
 use Rattle.std.specs.FinMap as map
 use Rattle.std.proofs.lemmas.Bool.Decides.{nat_tests}
 use Rattle.gfx_table.specs.Groups.{is_member}
 use Rattle.gfx_model.specs.Questions.{is_owned, passes}
-use Rattle.gfx_objects.specs.Children.{count_of}
 use Rattle.gfx_objects.specs.Inside.{kept_of}
 use Rattle.gfx_objects.specs.Objects.{answers}
 use Rattle.gfx_objects.proofs.Asked.{owned_answered}
 use Rattle.gfx_objects.proofs.Index.{len_removed}
-use Rattle.gfx_objects.proofs.Kept.{sound_same}
-use Rattle.gfx_objects.proofs.Grouped.{grouped_same}
-use Rattle.gfx_objects.proofs.Owned.{last_listed, none_listed, owned_row, not_owned_row, one_gone, all_ended}
+use Rattle.gfx_objects.proofs.Owned.{owned_anew, last_listed, none_listed, owned_row, not_owned_row, one_gone, all_ended}
 use Rattle.gfx_objects.proofs.Steps.{ended}
 use Rattle.gfx_objects.proofs.objects.Objects.remove.Goals as goal
 
@@ -47,20 +44,12 @@ closed id old new is none = λ i g x. (each g x) i
 pub invariant_of-self : goal.invariant_of-self
 invariant_of-self c =
     let s = c.self.inside in
-    let room = c.self.invariant.has_room in
     let last = sym c.last.ensures.value ∙ sym c.copied.ensures ∙ c.in_default.is in
     let none = λ (x : ℕ).
     c.self.invariant.grouped.by_owner c.args.id x ∙ owned_answered (kept_of s) c.args.id x
     ∙ ap (λ k. passes (λ o. is_owned o.detail && c.args.id == o.parent) ((answers k).live x)) c.self.view_is
     ∙ sym (c.owned-in-owned.ensures.all x) ∙ none_listed c.owned-in-owned.result.now last x in
-    record {
-      sound = sound_same (kept_of s) (record { rows = s.rows.map; used = s.used; owned = c.close.new.self.sets.map; spare = s.room }) refl refl c.self.invariant.sound;
-      indexed = c.self.invariant.indexed;
-      grouped = grouped_same s.rows.map s.rows.map (is_member s.owned.sets.map) (is_member c.close.new.self.sets.map) (is_member s.resting.sets.map) (is_member s.resting.sets.map)
-          (count_of s.swapchains.counts.map) (count_of s.swapchains.counts.map) refl
-          (closed c.args.id (is_member s.owned.sets.map) (is_member c.close.new.self.sets.map) c.close.ensures none) refl refl c.self.invariant.grouped;
-      has_room = record { rows = room.rows; used = room.used; children = room.children; swapchains = room.swapchains };
-    }
+    owned_anew s c.close.new.self (closed c.args.id (is_member s.owned.sets.map) (is_member c.close.new.self.sets.map) c.close.ensures none) c.self.invariant
 
 pub returns-clause-step : goal.returns-clause-step
 returns-clause-step c =

@@ -49,6 +49,7 @@ invariant_of-self c =
         children = let a = room.children in let b = c.remove-in-Some.ensures.room in omega (arith, a, b);
         swapchains = let a = room.swapchains in let b = c.remove_from.ensures.room in omega (arith, a, b);
       };
+      noted = λ n is. absurd (grind (arith, is));
     }
 
 pub invariant_of-self-in_default : goal.invariant_of-self-in_default
@@ -69,4 +70,5 @@ invariant_of-self-in_default c =
         children = room.children;
         swapchains = room.swapchains;
       };
+      noted = λ n is. absurd (grind (arith, is));
     }

@@ -5,8 +5,15 @@ use Rattle.gfx_objects.specs.Children.{count_of}
 use Rattle.gfx_objects.specs.Objects.{answers}
 use Rattle.gfx_objects.proofs.Kept.{sound_same, indexed_same}
 use Rattle.gfx_objects.proofs.Grouped.{grouped_same}
+use Rattle.gfx_objects.proofs.Owned.{owned_anew}
 use Rattle.gfx_objects.proofs.Steps.{answers_same}
 use Rattle.gfx_objects.proofs.objects.Objects.reserve.Goals as goal
+
+pub invariant_of-self : goal.invariant_of-self
+invariant_of-self c = owned_anew c.self.inside c.reserve.new.self c.reserve.ensures.same c.self.invariant
+
+pub invariant_of-self-then-self-n : goal.invariant_of-self-then-self-n
+invariant_of-self-then-self-n c = owned_anew c.self.inside c.reserve.new.self c.reserve.ensures.same c.self.invariant
 
 pub returns-then-is_err-clause-same : goal.returns-then-is_err-clause-same
 returns-then-is_err-clause-same c =
@@ -36,6 +43,7 @@ invariant_of-self-in_default c =
         children = let a = room.children in let b = e.children_room in omega (arith, a, b);
         swapchains = let a = room.swapchains in let b = e.swapchains_room in omega (arith, a, b);
       };
+      noted = λ n is. absurd (grind (arith, is));
     }
 
 pub returns-in_default-clause-same : goal.returns-in_default-clause-same
@@ -58,6 +66,7 @@ invariant_of-self-2 c =
       grouped = grouped_same s.rows.map n.rows.map (is_member s.owned.sets.map) (is_member c.reserve.new.self.sets.map) (is_member s.resting.sets.map) (is_member s.resting.sets.map)
           (count_of s.swapchains.counts.map) (count_of n.swapchains.counts.map) e.rows c.reserve.ensures.same refl e.swapchains c.self.invariant.grouped;
       has_room = record { rows = made.rows_made; used = made.used_made; children = made.children_made; swapchains = made.swapchains_made };
+      noted = λ n is. absurd (grind (arith, is));
     }
 
 pub returns-clause-same : goal.returns-clause-same

@@ -49,4 +49,5 @@ invariant_of-self-2 c =
         children = c.self.invariant.has_room.children;
         swapchains = c.self.invariant.has_room.swapchains;
       };
+      noted = λ n is. absurd (grind (arith, is));
     }
