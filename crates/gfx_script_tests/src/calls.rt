@@ -30,16 +30,14 @@ fn last_line<'a, R: Abort>(rt: &R, script: &'a Script) -> &'a Line {
 
 /// An id for each number of a name: a hundred more, and 0 for none.
 fn ids_of(alloc: Global, numbers: &[u64]) -> Result<Vec<u64>, AllocError> {
-    let mut ids = Vec::new(alloc);
-    for &number in numbers {
-        let id = if number == 0 {
+    numbers
+        .iter()
+        .map(|number| if *number == 0 {
             0
         } else {
             number.wrapping_add(100)
-        };
-        ids.push(id)?;
-    }
-    Ok(ids)
+        })
+        .collect(alloc)
 }
 
 /// What the line says with these ids.
@@ -70,12 +68,12 @@ fn assert_says<R: Abort>(
 
 #[test]
 fn each_call_is_read_as_a_line(rt: HostRuntime) -> Result<(), Fail> {
-    for front in FRONTS {
-        for (line, expected) in LINES {
+    for &front in &FRONTS {
+        for &(line, expected) in &LINES {
             assert_says(&rt, rt.alloc(), front, line, expected)?;
         }
     }
-    for (front, (line, expected)) in FRONTS.into_iter().zip(PRESENTS) {
+    for (&front, &(line, expected)) in FRONTS.iter().zip(&PRESENTS) {
         assert_says(&rt, rt.alloc(), front, line, expected)?;
     }
     Ok(())

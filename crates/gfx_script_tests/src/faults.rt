@@ -1,6 +1,7 @@
 //! Texts with a fault, and texts like them without one.
 
-use gfx_script::{ScriptFault, ScriptKind, parse};
+use crate::limits::fault_of;
+use gfx_script::{ScriptFault, ScriptKind};
 use std::test::Fail;
 
 /// Texts, and the first line with a fault and its kind where there is one.
@@ -153,15 +154,8 @@ const TEXTS: [(&str, Option<(u32, ScriptKind)>); 62] = [
 
 #[test]
 fn the_first_fault_of_a_text_is_named(rt: HostRuntime) -> Result<(), Fail> {
-    for (text, fault) in TEXTS {
-        match (parse(rt.alloc(), text.as_bytes()), fault) {
-            (Ok(_), None) => {}
-            (Err(ScriptFault::Bad { line, kind }), Some(expected)) => {
-                assert_eq!(rt; (line, kind), expected, "{text}");
-            }
-            (Ok(_), Some(_)) => panic!(rt; "{text} has a fault"),
-            (Err(fault), _) => panic!(rt; "{text}: {fault}"),
-        }
+    for &(text, fault) in &TEXTS {
+        assert_eq!(rt; fault_of(rt.alloc(), text.as_bytes())?, fault, "{text}");
     }
     Ok(())
 }

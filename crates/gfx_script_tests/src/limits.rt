@@ -18,7 +18,7 @@ fn repeated(alloc: Global, text: &[u8], times: usize, last: &[u8]) -> Result<Vec
 }
 
 /// The first line with a fault and its kind, where there is one.
-fn fault_of(alloc: Global, text: &[u8]) -> Result<Option<(u32, ScriptKind)>, Fail> {
+pub(crate) fn fault_of(alloc: Global, text: &[u8]) -> Result<Option<(u32, ScriptKind)>, Fail> {
     match parse(alloc, text) {
         Ok(_) => Ok(None),
         Err(ScriptFault::Bad { line, kind }) => Ok(Some((line, kind))),

@@ -3,9 +3,14 @@ use gfx_text::{Left, Numbered, TextFault, read_call, read_meta};
 use gfx_text_samples::{BAD, CALLS, METAS, PRESENTS};
 use gfx_text_writer::{show_call, show_meta};
 use gfx_types::{Call, Meta, WantMemory};
-use std::alloc::Global;
+use std::alloc::{AllocError, Global};
 use std::process::Abort;
 use std::test::Fail;
+
+/// The words of a line.
+fn words_of(alloc: Global, line: &str) -> Result<Vec<&[u8]>, AllocError> {
+    line.as_bytes().split(|c| *c == b' ').collect(alloc)
+}
 
 fn call_of<'a>(
     alloc: Global,
@@ -13,7 +18,7 @@ fn call_of<'a>(
     line: &str,
     room: &'a mut Vec<u8>,
 ) -> Result<Call<'a>, TextFault> {
-    let words: Vec<&[u8]> = line.as_bytes().split(|c| *c == b' ').collect(alloc)?;
+    let words = words_of(alloc, line)?;
     let Some((name, fields)) = words.as_slice().split_first() else {
         return Err(TextFault::Bad);
     };
@@ -28,7 +33,7 @@ fn call_of<'a>(
 }
 
 fn meta_of<'a>(alloc: Global, line: &str, room: &'a mut Vec<u8>) -> Result<Meta<'a>, TextFault> {
-    let words: Vec<&[u8]> = line.as_bytes().split(|c| *c == b' ').collect(alloc)?;
+    let words = words_of(alloc, line)?;
     let Some((name, fields)) = words.as_slice().split_first() else {
         return Err(TextFault::Bad);
     };
@@ -86,12 +91,12 @@ fn assert_both_ways(
 
 #[test]
 fn each_call_is_read_and_written_in_both_versions(rt: HostRuntime) -> Result<(), Fail> {
-    for (line, said) in CALLS {
+    for &(line, said) in &CALLS {
         for minor in [1, 2] {
             assert_both_ways(&rt, minor, line, said)?;
         }
     }
-    for (minor, line, said) in PRESENTS {
+    for &(minor, line, said) in &PRESENTS {
         assert_both_ways(&rt, minor, line, said)?;
     }
     Ok(())
@@ -100,7 +105,7 @@ fn each_call_is_read_and_written_in_both_versions(rt: HostRuntime) -> Result<(),
 #[test]
 fn each_metadata_is_read_and_written(rt: HostRuntime) -> Result<(), Fail> {
     let alloc = rt.alloc();
-    for (line, said) in METAS {
+    for &(line, said) in &METAS {
         let mut room = Vec::new(alloc);
         let meta = meta_of(alloc, line, &mut room)?;
         let text = format!(in alloc; "{meta:?}")?;
@@ -114,7 +119,7 @@ fn each_metadata_is_read_and_written(rt: HostRuntime) -> Result<(), Fail> {
 #[test]
 fn a_line_with_a_fault_is_bad(rt: HostRuntime) -> Result<(), Fail> {
     let alloc = rt.alloc();
-    for (fault, line) in BAD {
+    for &(fault, line) in &BAD {
         let mut room = Vec::new(alloc);
         let answer = call_of(alloc, 1, line, &mut room);
         assert!(rt; matches!(answer, Err(TextFault::Bad)), "{fault}");
