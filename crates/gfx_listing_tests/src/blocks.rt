@@ -47,12 +47,12 @@ fn try_line(rt: &impl Abort, alloc: Global, head: &str, line: &str) -> Result<()
 #[test]
 fn each_call_is_read_and_written_in_both_versions(rt: HostRuntime) -> Result<(), Fail> {
     let alloc = rt.alloc();
-    for (fields, _) in CALLS {
+    for &(fields, _) in &CALLS {
         let line = format!(in alloc; "thread=18446744073709551615 vk{fields}")?;
         try_line(&rt, alloc, HEAD_1, line.as_str())?;
         try_line(&rt, alloc, HEAD_2, line.as_str())?;
     }
-    for (minor, fields, _) in PRESENTS {
+    for &(minor, fields, _) in &PRESENTS {
         let head = if minor == 1 { HEAD_1 } else { HEAD_2 };
         let line = format!(in alloc; "thread=0 vk{fields}")?;
         try_line(&rt, alloc, head, line.as_str())?;
@@ -63,7 +63,7 @@ fn each_call_is_read_and_written_in_both_versions(rt: HostRuntime) -> Result<(),
 #[test]
 fn each_metadata_is_read_and_written_in_both_versions(rt: HostRuntime) -> Result<(), Fail> {
     let alloc = rt.alloc();
-    for (fields, _) in METAS {
+    for &(fields, _) in &METAS {
         let line = format!(in alloc; "thread=3 {fields}")?;
         try_line(&rt, alloc, HEAD_1, line.as_str())?;
         try_line(&rt, alloc, HEAD_2, line.as_str())?;
@@ -74,7 +74,7 @@ fn each_metadata_is_read_and_written_in_both_versions(rt: HostRuntime) -> Result
 #[test]
 fn markers_and_skipped_blocks_are_read_and_written(rt: HostRuntime) -> Result<(), Fail> {
     let alloc = rt.alloc();
-    for (line, said) in LINES {
+    for &(line, said) in &LINES {
         let file = file_of(alloc, HEAD_1, line)?;
         assert!(rt; HEADER_LENGTH <= file.len());
         let wanted = hex::decode(alloc, said)?;
@@ -95,11 +95,11 @@ fn is_bad(alloc: Global, head: &str, line: &str) -> Result<bool, LineFault> {
 #[test]
 fn a_line_with_a_fault_is_bad(rt: HostRuntime) -> Result<(), Fail> {
     let alloc = rt.alloc();
-    for (fault, line) in BAD_LINES {
+    for &(fault, line) in &BAD_LINES {
         let bad = is_bad(alloc, HEAD_1, line)?;
         assert!(rt; bad, "{fault}");
     }
-    for (fault, fields) in BAD {
+    for &(fault, fields) in &BAD {
         let line = format!(in alloc; "thread=1 vk{fields}")?;
         let bad = is_bad(alloc, HEAD_1, line.as_str())?;
         assert!(rt; bad, "{fault}");

@@ -17,7 +17,7 @@ fn head_again(alloc: Global, line: &str) -> Result<(Vec<u8>, Vec<u8>), LineFault
 #[test]
 fn each_header_is_read_and_written(rt: HostRuntime) -> Result<(), Fail> {
     let alloc = rt.alloc();
-    for (line, said) in HEADS {
+    for &(line, said) in &HEADS {
         let (bytes, again) = head_again(alloc, line)?;
         let wanted = hex::decode(alloc, said)?;
         assert_eq!(rt; bytes.as_slice(), wanted.as_slice(), "{line}");
@@ -29,7 +29,7 @@ fn each_header_is_read_and_written(rt: HostRuntime) -> Result<(), Fail> {
 #[test]
 fn a_header_with_a_fault_is_bad(rt: HostRuntime) -> Result<(), Fail> {
     let alloc = rt.alloc();
-    for (fault, line) in BAD_HEADS {
+    for &(fault, line) in &BAD_HEADS {
         let mut bytes = Vec::new(alloc);
         let answer = read_head(line.as_bytes(), &mut bytes);
         assert!(rt; matches!(answer, Err(LineFault::BadLine)), "{fault}");

@@ -76,7 +76,7 @@ const CASES: [Case; 12] = [
 
 #[test]
 fn limits_are_kept_and_told(rt: HostRuntime) -> Result<(), Fail> {
-    for (text, times, last, fault) in CASES {
+    for &(text, times, last, fault) in &CASES {
         let script = repeated(rt.alloc(), text, times, last)?;
         assert_eq!(rt; fault_of(rt.alloc(), script.as_slice())?, fault);
     }
