@@ -6,8 +6,7 @@ use Rattle.std.specs.Ordering.{nat_cmp}
 use Rattle.std.specs.FinMap as map
 use Rattle.std.specs.FinMap.{FinMap, find, entries, get-entries, len-empty, len-insert, len-remove, len-entries}
 use Rattle.std.specs.Cmp.{nat_cmp_total}
-use Rattle.std.proofs.lemmas.Bool.Decides.{nat_tests}
-use Rattle.gfx_table.specs.Rows.{total, weight, total-insert, total-remove, same_rows, got-insert, got-remove}
+use Rattle.gfx_table.specs.Rows.{total, weight, total-insert, total-remove, got-insert, got-remove}
 use Rattle.gfx_objects.specs.declared.object.Object.{Object}
 
 pub at_insert : {X : Type 0} (m : FinMap nat_cmp X) (id : ℕ) (o : X) (q : ℕ) → map.get (map.insert m id o) q ≡ (if id == q then Some o else map.get m q)
@@ -69,10 +68,3 @@ total_empty weigh =
     no_entries : (es : List (ℕ × Object)) → length es ≡ 0 → es ≡ []
     no_entries [] e = refl
     no_entries (x ∷ es) e = absurd (omega arith)
-
--- what isn't there cannot be taken out
-pub remove_none : (m : FinMap nat_cmp Object) (id : ℕ) → map.get m id ≡ None → map.remove m id ≡ m
-remove_none m id none = same_rows _ _ (λ q.
-    let a = at_remove m id q in
-    let here : id ≡ q → map.get m q ≡ None = λ p. rw (sym p) none in
-    grind (arith, nat_tests, a, here))

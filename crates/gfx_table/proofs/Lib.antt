@@ -1,5 +1,6 @@
 mod Bits
 mod Joining
+mod Marking
 mod Leasts
 mod Densing
 mod Placing

@@ -10,6 +10,7 @@ use Rattle.std.specs.FinMap as map
 use Rattle.std.specs.FinMap.{FinMap, find}
 use Rattle.gfx_table.specs.Joined.{joined}
 use Rattle.gfx_table.specs.Slotted.{slot_at, row_in, filled, own_slot, IsInGroup, IsNowhere, CanTake, StandOnce, AreOwn, ArePlaced, IsSlotted}
+use Rattle.gfx_table.specs.Rows.{got-remove, insert_back}
 use Rattle.gfx_table.proofs.Sorting.{times, times_cons, times_append, keys_once, sorted_keys}
 use Rattle.std.specs.Prelude.{map as each}
 use Rattle.std.proofs.Common.{append_assoc}
@@ -276,6 +277,34 @@ module _ {X : Type 0} where
   clear_rest mask d slots m first id is at none =
       let missing = looked_nowhere mask slots first id is.placed at none in
       (record { placed = is.placed; own = is.own; apart = apart_remove_list (filled slots) _ m id is.apart refl }, remove_in_list (filled slots) _ m id refl missing)
+
+  -- an id of the rest stands in no slot
+  rest_nowhere : (mask : ℕ) (d : Bool) (slots : List (Option (ℕ × X))) (m : FinMap nat_cmp X) → IsSlotted mask d slots m → (id : ℕ) (row : X) → map.get m id ≡ Some row
+      → (slot : ℕ) → row_in (slot_at slots slot) id ≡ None
+  rest_nowhere mask d slots m is id row some slot = by (row_in (slot_at slots slot) id) refl
+    where
+      by : (o : Option X) → row_in (slot_at slots slot) id ≡ o → row_in (slot_at slots slot) id ≡ None
+      by None none = none
+      by (Some there) at = let missing = missing_there mask d slots m is slot id (ap is_some at) in absurd (grind (arith, missing, some))
+
+  -- a row of the rest moves into a free slot of its group
+  pub moved : (mask : ℕ) (d n : Bool) (slots : List (Option (ℕ × X))) (m : FinMap nat_cmp X) (first s id : ℕ) (row : X) → IsSlotted mask d slots m → first ≡ bit_and id mask → map.get m id ≡ Some row
+      → IsInGroup first s → s < length slots → slot_at slots s ≡ None → (n ≡ false → (d ≡ false) × (s ≡ own_slot first id))
+      → IsSlotted mask n (slice_set slots s (Some (id, row))) (map.remove m id) × (joined (filled (slice_set slots s (Some (id, row)))) (map.remove m id) ≡ joined (filled slots) m)
+  moved mask d n slots m first s id row is at some group inside free still =
+      let none = rest_nowhere mask d slots m is id row some in
+      let cleared = clear_rest mask d slots m first id is at (λ slot within. none slot) in
+      let gone = ap (λ f. f id) (got-remove m id) in
+      let can : CanTake slots (map.remove m id) first id s = record {
+        group = group;
+        inside = inside;
+        own = λ e taken. absurd (grind (arith, free, taken));
+        free = λ _ slot within. none slot;
+        missing = λ _. grind (arith, nat_tests, gone);
+      } in
+      let put = put_slot mask d n slots (map.remove m id) first s id row cleared.0 at can still in
+      let there = sym (got_rest mask d slots m is first id at (λ slot within. none slot)) ∙ some in
+      (put.0, put.1 ∙ ap (λ k. map.insert k id row) cleared.1 ∙ insert_back (joined (filled slots) m) id row there)
 
   -- ---- slots one after the other
 

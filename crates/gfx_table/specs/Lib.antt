@@ -8,4 +8,5 @@ pub mod Values
 pub mod Joined
 pub mod Least
 pub mod Used
+pub mod Rest
 pub mod Rows

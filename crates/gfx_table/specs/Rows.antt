@@ -62,6 +62,21 @@ module _ {X : Type 0} where
       let c = insert_at m id second q in
       grind (arith, nat_tests, a, b, c))
 
+  -- a row that isn't there is taken out
+  pub remove_none : (m : FinMap nat_cmp X) (id : ℕ) → map.get m id ≡ None → map.remove m id ≡ m
+  remove_none m id none = same_rows _ _ (λ q.
+      let a = remove_at m id q in
+      let here : id ≡ q → map.get m id ≡ map.get m q = ap (map.get m) in
+      grind (arith, nat_tests, a, here, none))
+
+  -- a row that is taken out and put back
+  pub insert_back : (m : FinMap nat_cmp X) (id : ℕ) (row : X) → map.get m id ≡ Some row → map.insert (map.remove m id) id row ≡ m
+  insert_back m id row is = same_rows _ _ (λ q.
+      let a = insert_at (map.remove m id) id row q in
+      let b = remove_at m id q in
+      let here : id ≡ q → map.get m id ≡ map.get m q = ap (map.get m) in
+      grind (arith, nat_tests, a, b, here, is))
+
   ids-put : (es : List (ℕ × X)) (id : ℕ) (row : X) → map.find nat_cmp id es ≡ None → each (λ e. e.0) (put nat_cmp id row es) ≡ in_order id (each (λ e. e.0) es)
   ids-put [] id row none = refl
   ids-put (e ∷ es) id row none = let rest = ids-put es id row in grind (arith, nat_tests)

@@ -6,6 +6,7 @@ mod dense;
 mod groups;
 mod id_list;
 mod ordered;
+mod rest;
 mod slotted;
 mod spill;
 mod stored;

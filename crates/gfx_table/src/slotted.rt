@@ -5,7 +5,7 @@ ghost use Rattle.std.specs.Ordering.{nat_cmp};
 ghost use Rattle.std.specs.FinMap as map;
 ghost use Rattle.gfx_table.specs.Slotted.{slot_at, row_in, filled, own_slot, StandsOwn, IsInGroup, IsNowhere, CanTake, StandOnce, AreOwn, ArePlaced};
 
-use crate::ordered::Table;
+use crate::rest::Rest;
 use std::alloc::{AllocError, Global};
 use std::marker::Model;
 use std::mem;
@@ -25,7 +25,7 @@ pub struct Slotted<V: Copy> {
     taken: usize,
     // whether an id may stand in another slot of its group than its own
     displaced: bool,
-    rest: Table<V>,
+    rest: Rest<V>,
     alloc: Global,
 }
 
@@ -53,7 +53,7 @@ impl<V: Copy> Slotted<V> {
             mask: 0,
             taken: 0,
             displaced: false,
-            rest: Table::new(alloc),
+            rest: Rest::new(alloc),
             alloc,
         }
     }
@@ -68,8 +68,43 @@ impl<V: Copy> Slotted<V> {
         let wanted = self.taken.saturating_add(more);
         if wanted > self.slots.len() / 2 {
             self.widen(wanted);
+            self.gather();
+            self.rest.mark_anew(self.slots.len() / GROUP);
         }
         Ok(())
+    }
+
+    // Moves rows of the rest into slots that are free now, where the rest is the smaller part: it is gone over so seldom then that
+    // each row pays for a fixed number of looks.
+    fn gather(&mut self)
+        ensures map { self.new.map ≡ self.old.map }
+        ensures spare { self.old.spare ≤ self.new.spare }
+    {
+        if self.rest.len() > self.taken {
+            return;
+        }
+        let mut ids = Vec::new(self.alloc);
+        if self.rest.push_ids(&mut ids).is_err() {
+            return;
+        }
+        'ids: for id in &ids {
+            self.move_in(*id);
+        }
+    }
+
+    // Moves the row of an id from the rest into a free slot of its group, where there are both.
+    fn move_in(&mut self, id: u64)
+        ensures map { self.new.map ≡ self.old.map }
+        ensures spare { self.old.spare ≤ self.new.spare }
+    {
+        let first = first_of(id, self.mask);
+        let Some(slot) = free_in(&self.slots, first, id) else {
+            return;
+        };
+        if let Some(row) = self.rest.remove(id) {
+            put(&mut self.slots, &mut self.taken, slot, (id, row));
+            self.displaced = displaces(self.displaced, slot, first, id);
+        }
     }
 
     // Makes slots of which half are free then, where there is memory for them.
@@ -99,7 +134,7 @@ impl<V: Copy> Slotted<V> {
         }
     }
 
-    // The row under the id, which most rows' own slot has answered for before.
+    // The row under the id, wherever it stands; most rows were found in their own slot before.
     fn get_anywhere(&self, id: u64) -> Option<&V>
         ensures { option_copied result ≡ map.get self.now.map id }
     {
@@ -252,7 +287,7 @@ fn row_of<V: Copy>(slot: &Option<(u64, V)>, id: u64) -> Option<&V>
 fn slot_for<V: Copy>(
     slots: &[Option<(u64, V)>],
     displaced: bool,
-    rest: &Table<V>,
+    rest: &Rest<V>,
     first: usize,
     id: u64,
 ) -> Option<usize>

@@ -1,11 +1,12 @@
 use Rattle.std.proofs.Common.{◌≡◌, ◌-◌, ◌==◌, ◌&&◌, false, None, if◌then◌else◌, refl, ap, sym, ◌∙◌, arith}
 use Rattle.std.specs.FinMap as map
 use Rattle.gfx_table.specs.Groups.{is_member}
+use Rattle.gfx_table.specs.Rows.{remove_none}
 use Rattle.gfx_model.specs.Views.{detail_bytes}
 use Rattle.gfx_objects.specs.Object.{detail_of}
 use Rattle.gfx_objects.specs.Inside.{kept_of}
 use Rattle.gfx_objects.specs.Children.{is_at, count_of}
-use Rattle.gfx_objects.proofs.Index.{remove_none, total_removed, len_removed}
+use Rattle.gfx_objects.proofs.Index.{total_removed, len_removed}
 use Rattle.gfx_objects.proofs.Kept.{sound_same, sound_removed, indexed_same, indexed_removed}
 use Rattle.gfx_objects.proofs.Grouped.{grouped_same, grouped_removed}
 use Rattle.gfx_objects.proofs.objects.Objects.remove_row.Goals as goal

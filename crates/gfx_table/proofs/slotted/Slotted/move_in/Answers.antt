@@ -1,0 +1,30 @@
+use Rattle.std.proofs.Common.{slice_set, Some, ap, sym, ◌∙◌}
+use Rattle.gfx_table.specs.Joined.{joined}
+use Rattle.gfx_table.specs.Rows.{remove_none}
+use Rattle.gfx_table.specs.Slotted.{filled}
+use Rattle.gfx_table.proofs.Slotting.{moved}
+use Rattle.gfx_table.proofs.slotted.Slotted.move_in.Goals as goal
+
+pub invariant_of-self : goal.invariant_of-self
+invariant_of-self g c =
+    let s = c.self.inside in
+    let move = moved s.mask s.displaced c.displaces-self-inside.result s.slots.items s.rest.map c.first_of-first.result c.in-Some.slot c.args.id c.in-Some-remove.row c.self.invariant c.first_of-first.ensures
+    (sym c.in-Some-remove.ensures.value) c.in-Some.ensures.group (rw c.deref.ensures.value at c.in-Some.ensures.inside) (rw c.deref.ensures.value at c.in-Some.ensures.free) c.displaces-self-inside.ensures in
+    rw c.put.ensures (rw c.in-Some-remove.ensures.map move.0)
+
+pub invariant_of-self-in_default-remove : goal.invariant_of-self-in_default-remove
+invariant_of-self-in_default-remove g c =
+    let s = c.self.inside in
+    rw (c.in_default-remove.ensures.map ∙ remove_none s.rest.map c.args.id (sym c.in_default-remove.ensures.value)) c.self.invariant
+
+pub returns-in-Some-remove-clause-map : goal.returns-in-Some-remove-clause-map
+returns-in-Some-remove-clause-map g c =
+    let s = c.self.inside in
+    let move = moved s.mask s.displaced c.displaces-self-inside.result s.slots.items s.rest.map c.first_of-first.result c.in-Some.slot c.args.id c.in-Some-remove.row c.self.invariant c.first_of-first.ensures
+    (sym c.in-Some-remove.ensures.value) c.in-Some.ensures.group (rw c.deref.ensures.value at c.in-Some.ensures.inside) (rw c.deref.ensures.value at c.in-Some.ensures.free) c.displaces-self-inside.ensures in
+    ap (λ slots. joined (filled slots) c.remove.new.self.map) c.put.ensures ∙ ap (joined (filled (slice_set s.slots.items c.in-Some.slot (Some (c.args.id, c.in-Some-remove.row))))) c.in-Some-remove.ensures.map ∙ move.1 ∙ ap (λ s. s.map) c.self.view_is
+
+pub returns-in_default-remove-clause-map : goal.returns-in_default-remove-clause-map
+returns-in_default-remove-clause-map g c =
+    let s = c.self.inside in
+    ap (joined (filled s.slots.items)) (c.in_default-remove.ensures.map ∙ remove_none s.rest.map c.args.id (sym c.in_default-remove.ensures.value)) ∙ ap (λ s. s.map) c.self.view_is
