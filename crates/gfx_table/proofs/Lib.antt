@@ -7,5 +7,6 @@ mod Placing
 mod Grouping
 mod Places
 mod Slotting
+mod Spreading
 pub mod Sorting
 mod Storing

@@ -69,6 +69,13 @@ module _ {X : Type 0} where
       let here : id ≡ q → map.get m id ≡ map.get m q = ap (map.get m) in
       grind (arith, nat_tests, a, here, none))
 
+  -- a row that is there is put there
+  pub insert_same : (m : FinMap nat_cmp X) (id : ℕ) (row : X) → map.get m id ≡ Some row → map.insert m id row ≡ m
+  insert_same m id row is = same_rows _ _ (λ q.
+      let a = insert_at m id row q in
+      let here : id ≡ q → map.get m id ≡ map.get m q = ap (map.get m) in
+      grind (arith, nat_tests, a, here, is))
+
   -- a row that is taken out and put back
   pub insert_back : (m : FinMap nat_cmp X) (id : ℕ) (row : X) → map.get m id ≡ Some row → map.insert (map.remove m id) id row ≡ m
   insert_back m id row is = same_rows _ _ (λ q.

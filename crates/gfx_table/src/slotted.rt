@@ -65,8 +65,10 @@ impl<V: Copy> Slotted<V> {
         ensures spare { self.old.spare ≤ self.new.spare }
     {
         self.rest.reserve(more)?;
-        let wanted = self.taken.saturating_add(more);
-        if wanted > self.slots.len() / 2 {
+        // One slot for each row while each id stands in its own, and else as many that are free.
+        let rows = self.taken.saturating_add(more);
+        let wanted = rows.saturating_mul(1 + usize::from(self.displaced));
+        if wanted > self.slots.len() {
             self.widen(wanted);
             self.gather();
             self.rest.mark_anew(self.slots.len() / GROUP);
@@ -107,11 +109,11 @@ impl<V: Copy> Slotted<V> {
         }
     }
 
-    // Makes slots of which half are free then, where there is memory for them.
+    // Makes so many slots, where there is memory for them.
     fn widen(&mut self, wanted: usize)
         ensures { self.new ≡ self.old }
     {
-        let mask = mask_over(wanted.saturating_mul(2));
+        let mask = mask_over(wanted);
         let Ok(mut wide) = Vec::from_elem(self.alloc, None, (mask as usize).saturating_add(GROUP))
         else {
             return;

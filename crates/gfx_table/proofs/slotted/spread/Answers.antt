@@ -1,4 +1,4 @@
-use Rattle.gfx_table.proofs.Slotting.{spread_start, spread_past, spread_more}
+use Rattle.gfx_table.proofs.Spreading.{spread_start, spread_past, spread_more}
 use Rattle.gfx_table.proofs.slotted.spread.Goals as goal
 use Rattle.gfx_table.proofs.slotted.spread.Goals.{in-Some+in_ok-place, in_default}
 

@@ -1,4 +1,4 @@
-use Rattle.gfx_table.proofs.Slotting.{IsSpread}
+use Rattle.gfx_table.proofs.Spreading.{IsSpread}
 use Rattle.gfx_table.proofs.slotted.spread.Given as goal
 
 -- what stood in the slots so far stands in the wide slots

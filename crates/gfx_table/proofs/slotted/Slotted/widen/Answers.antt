@@ -1,5 +1,5 @@
 use Rattle.std.proofs.Common.{ap, ◌∙◌}
-use Rattle.gfx_table.proofs.Slotting.{same_slotted}
+use Rattle.gfx_table.proofs.Spreading.{same_slotted}
 use Rattle.gfx_table.proofs.slotted.Slotted.widen.Goals as goal
 
 pub returns-in-Some : goal.returns-in-Some
