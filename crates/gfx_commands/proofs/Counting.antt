@@ -7,7 +7,7 @@ use Rattle.std.specs.FinMap as map
 use Rattle.std.specs.FinMap.{FinMap, get-empty}
 use Rattle.std.proofs.lemmas.Bool.Decides.{nat_tests}
 use Rattle.std.proofs.lemmas.List.Sums.{sum_by-cons}
-use Rattle.gfx_table.specs.Rows.{total, weight, total-insert, total-remove, total-by_ids, got-remove, same_rows, got-insert}
+use Rattle.gfx_table.specs.Rows.{total, weight, total-insert, total-remove, total-by_ids, got-remove, remove_none}
 use Rattle.gfx_model.specs.Questions.{Buffer, new_buffer, is_kept}
 use Rattle.gfx_model.specs.Spelling.{spelling}
 use Rattle.gfx_model.specs.Views.{commands_in, bytes_in}
@@ -48,12 +48,6 @@ module _ (m : FinMap nat_cmp Recording) (id : ℕ) (none : map.get m id ≡ None
       let e = ap (total weigh) is in
       omega (arith, a, b, e)
 
-  remove_none : map.remove m id ≡ m
-  remove_none = same_rows _ _ (λ x.
-      let a = ap (λ f. f x) (got-remove m id) in
-      let here : id ≡ x → map.get m x ≡ None = λ e. rw (sym e) none in
-      grind (arith, nat_tests, a, here))
-
 module _ (m : FinMap nat_cmp Recording) (id : ℕ) (o : Recording) (some : map.get m id ≡ Some o) where
   pub commands_replaced : (n : FinMap nat_cmp Recording) (r : Recording) → n ≡ map.insert m id r → commands_total n + commands_in (buffer_of o) ≡ commands_total m + commands_in (buffer_of r)
   unfolding commands_total
@@ -79,13 +73,6 @@ module _ (m : FinMap nat_cmp Recording) (id : ℕ) (o : Recording) (some : map.g
   unfolding bytes_total
   bytes_part = part m id o some bytes_by
 
-  -- a row that is put back
-  pub put_back : map.insert m id o ≡ m
-  put_back = same_rows _ _ (λ x.
-      let a = ap (λ f. f x) (got-insert m id o) in
-      let here : id ≡ x → map.get m x ≡ Some o = λ e. rw (sym e) some in
-      grind (arith, nat_tests, a, here))
-
 module _ (m : FinMap nat_cmp Recording) (id : ℕ) (none : map.get m id ≡ None) where
   pub commands_fresh : (n : FinMap nat_cmp Recording) (r : Recording) → n ≡ map.insert m id r → commands_total n ≡ commands_total m + commands_in (buffer_of r)
   unfolding commands_total
@@ -94,9 +81,6 @@ module _ (m : FinMap nat_cmp Recording) (id : ℕ) (none : map.get m id ≡ None
   pub bytes_fresh : (n : FinMap nat_cmp Recording) (r : Recording) → n ≡ map.insert m id r → bytes_total n ≡ bytes_total m + bytes_in (buffer_of r)
   unfolding bytes_total
   bytes_fresh = fresh m id none bytes_by
-
-  pub nothing_removed : (n : FinMap nat_cmp Recording) → n ≡ map.remove m id → n ≡ m
-  nothing_removed n is = is ∙ remove_none m id none commands_by
 
 -- ---- the totals beside the rows
 
@@ -150,7 +134,7 @@ module _ (m : FinMap nat_cmp Recording) (t : Totals) (counted : IsCounted m t) (
 
     pub counted_still : (n : FinMap nat_cmp Recording) → n ≡ map.remove m id → IsCounted n t
     counted_still n is =
-        let same = nothing_removed m id none n is in
+        let same = is ∙ remove_none m id none in
         record {
           commands = counted.commands ∙ sym (ap commands_total same);
           bytes = counted.bytes ∙ sym (ap bytes_total same);

@@ -9,7 +9,7 @@ use Rattle.gfx_table.specs.Rows.{got-insert}
 use Rattle.gfx_model.specs.Checks.{Layouts, meets, layouts_after, is_among, but}
 use Rattle.gfx_model.specs.Checks.Layouts.{stays, goes}
 use Rattle.gfx_commands.specs.declared.uses.Use.{Use}
-use Rattle.gfx_commands.specs.Uses.{IsIndex, plain, use_of, suits, known, accepts, asked, lets_go, gone}
+use Rattle.gfx_commands.specs.Uses.{IsIndex, plain, use_of, suits, accepts, asked, lets_go, gone}
 
 -- ---- asks one after the other
 

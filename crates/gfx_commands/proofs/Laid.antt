@@ -5,7 +5,7 @@ use Rattle.std.proofs.Common.{add-one}
 use Rattle.std.specs.Option.{option_map_or}
 use Rattle.gfx_types.specs.declared.lists.Submit.{Submit}
 use Rattle.gfx_model.specs.Questions.{Buffer}
-use Rattle.gfx_model.specs.Checks.{Layouts, layouts_after, meets}
+use Rattle.gfx_model.specs.Checks.{layouts_after, meets}
 use Rattle.gfx_model.specs.Layouts.{asked_in, cbs_at, executed_before, layouts_by}
 use Rattle.gfx_commands.specs.Differing.{AreMet}
 use Rattle.gfx_commands.proofs.Index.{layouts_after-append, meets-append}

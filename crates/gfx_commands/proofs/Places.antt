@@ -1,10 +1,11 @@
 -- Places for the resources of a command.
-use Rattle.std.proofs.Common.{◌≡◌, ℕ, suc, ◌+◌, ◌≤◌, ◌==◌, Bool, true, false, ◌&&◌, ◌||◌, List, [], ◌∷◌, length, Some, None, is_some, refl, ap, sym, ◌∙◌, arith}
+use Rattle.std.proofs.Common.{◌≡◌, ℕ, ◌+◌, ◌≤◌, ◌==◌, Bool, true, false, ◌&&◌, ◌||◌, List, [], ◌∷◌, length, Some, None, is_some, refl, ap, sym, ◌∙◌, arith}
 use Rattle.std.specs.List.{list_all}
 use Rattle.std.specs.Prelude.{unwrap_or, Option}
 use Rattle.std.specs.Ordering.{nat_cmp}
+use Rattle.std.specs.Cmp.{nat_cmp_total}
 use Rattle.std.specs.FinMap as map
-use Rattle.std.specs.FinMap.{FinMap}
+use Rattle.std.specs.FinMap.{FinMap, get-insert}
 use Rattle.std.proofs.lemmas.Bool.Decides.{nat_tests}
 use Rattle.gfx_table.specs.Slots.{Slots}
 use Rattle.gfx_commands.specs.declared.uses.Use.{Use}
@@ -38,6 +39,15 @@ places_left old new id rest named one kept places not = by (is_some (map.get old
         let old_not : list_all p rest ≡ false = sym (same_all _ p same rest) ∙ not in
         let room = places ((λ i. some i && old_not i)) in
         let fits = kept some in omega (arith, room, fits)
+
+-- what is put under a resource leaves the others theirs
+pub places_put : (old new : Slots Use) (id : ℕ) (one : Use) (rest : List ℕ) → new.map ≡ map.insert old.map id one → new.spare ≡ old.spare → HasPlaces old (id ∷ rest) → HasPlaces new rest
+places_put old new id one rest put spare places =
+    places_left old new id rest
+    (λ x.
+    let a = get-insert nat_cmp_total old.map id one x in
+    let b = ap (λ m. map.get m x) put in
+    grind (arith, nat_tests, a, b)) (omega (arith, spare)) (λ some. omega (arith, spare)) places
 
 -- of what isn't named nothing is asked
 pub missing_use : (uses : FinMap nat_cmp Use) (id : ℕ) → is_some (map.get uses id) ≡ false → use_of uses id ≡ plain

@@ -6,14 +6,19 @@ use Rattle.std.specs.FinMap.{FinMap}
 use Rattle.std.proofs.lemmas.Bool.Decides.{nat_tests}
 use Rattle.std.proofs.lemmas.Option.{same_Some}
 use Rattle.gfx_table.specs.Used.{holds}
-use Rattle.gfx_model.specs.Steps.{Detail}
+use Rattle.gfx_model.specs.Steps.{Detail, kind_of}
 use Rattle.gfx_model.specs.Questions.{Binding}
 use Rattle.gfx_model.specs.Views.{detail_size, detail_bytes}
 use Rattle.gfx_model.specs.Limits.{max_live_bytes, max_live_objects}
 use Rattle.gfx_objects.specs.declared.object.Object.{Object}
-use Rattle.gfx_objects.specs.Object.{detail_of, bound_of}
+use Rattle.gfx_objects.specs.Object.{detail_of, bound_of, is_within}
+use Rattle.gfx_objects.specs.Inside.{IsNoted}
 use Rattle.gfx_objects.specs.Objects.{Kept, IsRow, RestsIn, IsSound, IsIndexed, children_in, bytes_in}
 use Rattle.gfx_objects.proofs.Index.{total_created, len_created, total_removed, len_removed, total_changed, len_changed, at_insert, at_remove}
+
+-- where no device is at hand, none is told
+pub none_noted : (k : Kept) → IsNoted None k
+none_noted k n is = absurd (grind (arith, is))
 
 -- a row that isn't used isn't live
 pub unused_fresh : (k : Kept) → IsSound k → (id : ℕ) → holds k.used id ≡ false → map.get k.rows id ≡ None
@@ -105,9 +110,9 @@ module _ (k n : Kept) (id : ℕ) (o : Object) (rows : n.rows ≡ map.insert k.ro
     small = let a = ap bytes_in rows in let b = total_created k.rows id o (unused_fresh k sound id unused) (λ id o. detail_bytes (detail_of o.detail)) in omega (arith, a, b, small);
   }
 
-  pub sound_changed : (before : Object) → map.get k.rows id ≡ Some before → n.used ≡ k.used → IsRow id o → detail_of o.detail ≡ detail_of before.detail
+  pub sound_changed : (before : Object) → map.get k.rows id ≡ Some before → n.used ≡ k.used → o.id ≡ before.id → o.kind ≡ before.kind → detail_of o.detail ≡ detail_of before.detail
       → ((b : Binding) → bound_of o.detail ≡ Some b → RestsIn k (detail_of o.detail) b) → IsSound k → IsSound n
-  sound_changed before some used is parameters rests sound = record {
+  sound_changed before some used same_id same_kind parameters rests sound = record {
     row = λ x r some. row_at x r is sound.row some;
     bound =
         bound_at (λ i other. (still other) i)
@@ -129,6 +134,14 @@ module _ (k n : Kept) (id : ℕ) (o : Object) (rows : n.rows ≡ map.insert k.ro
         omega (arith, a, b, c);
   }
     where
+      is : IsRow id o
+      is = let old = sound.row id before some in record {
+        same_id = same_id ∙ old.same_id;
+        not_zero = old.not_zero;
+        same_kind = same_kind ∙ old.same_kind ∙ ap kind_of (sym parameters);
+        within = ap is_within parameters ∙ old.within;
+      }
+
       -- the id was used before
       still : (other : ℕ) → holds n.used other ≡ (id == other || holds k.used other)
       still other =

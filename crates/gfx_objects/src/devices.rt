@@ -48,10 +48,8 @@ impl Objects {
     pub fn note_device(&mut self, id: u64)
         ensures { self.new ≡ self.old }
     {
-        if self.noted_device(id).is_none() {
-            let device = self.climb(3, id);
-            self.noted = Some(Noted { id, device });
-        }
+        let device = self.device_of(id);
+        self.noted = Some(Noted { id, device });
     }
 
     // The device of the object, where it is at hand.

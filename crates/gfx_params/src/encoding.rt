@@ -13,7 +13,9 @@ use std::alloc::AllocError;
 macro_rules! written {
     ($value:expr, $of:ident, $out:expr, $at:expr, { $($other:tt)* }; $($section:ident { $($row:literal $name:ident $method:ident($($field:ident: $mark:ident),+);)+ })+) => {
         match $value {
-            $($($of::$name { $($field),+ } => in_order!($($field),+).write($out, $at),)+)+
+            $($($of::$name { $($field),+ } => {
+                in_order!($($field),+).write($out, $at);
+            })+)+
             $($other)*
         }
     };
@@ -38,7 +40,7 @@ pub fn encode(minor: u32, call: &Call<'_>, out: &mut Vec<u8>) -> Result<(), Want
 {
     let front = out.len();
     make_room(out, call_length(minor, call))?;
-    let _behind = write_call(minor, call, out, front);
+    write_call(minor, call, out, front);
     Ok(())
 }
 
@@ -50,7 +52,7 @@ pub fn encode_meta(meta: &Meta<'_>, out: &mut Vec<u8>) -> Result<(), WantMemory>
 {
     let front = out.len();
     make_room(out, meta_length(meta))?;
-    let _behind = write_meta(meta, out, front);
+    write_meta(meta, out, front);
     Ok(())
 }
 
@@ -105,9 +107,9 @@ fn meta_length(meta: &Meta<'_>) -> u64
     metas!(measured, meta, Meta, {})
 }
 
-/// Puts the fields of a call at a place, and tells the place behind them.
+/// Puts the fields of a call at a place.
 #[tactic(auto, unfolding(gfx_model::specs::Spelling::fields_of, gfx_model::specs::Spelling::spelling))]
-fn write_call(minor: u32, call: &Call<'_>, out: &mut Vec<u8>, at: usize) -> usize
+fn write_call(minor: u32, call: &Call<'_>, out: &mut Vec<u8>, at: usize)
     requires version { (minor ≡ 1) ⊎ (minor ≡ 2) }
     requires fits { HasSpelling minor (event_of_call call.now) }
     requires room { at + length (spelling minor (event_of_call call.now)) ≤ length out.old.items }
@@ -120,8 +122,7 @@ fn write_call(minor: u32, call: &Call<'_>, out: &mut Vec<u8>, at: usize) -> usiz
     })
 }
 
-/// Puts the fields of a present at a place, and tells the place behind them: version 1 has one swapchain and one index, version 2
-/// a list of them.
+/// Puts the fields of a present at a place: version 1 has one swapchain and one index, version 2 a list of them.
 #[tactic(auto, using(crate::proofs::Presented::one_spelled), unfolding(gfx_model::specs::Spelling::fields_of, gfx_model::specs::Spelling::spelling))]
 fn write_present(
     minor: u32,
@@ -130,24 +131,27 @@ fn write_present(
     presents: &Presents,
     out: &mut Vec<u8>,
     at: usize,
-) -> usize
+)
     requires version { (minor ≡ 1) ⊎ (minor ≡ 2) }
     requires fits { HasSpelling minor (QueuePresentKHR queue waits.now presents.now) }
     requires room { at + length (spelling minor (QueuePresentKHR queue waits.now presents.now)) ≤ length out.old.items }
     ensures { out.new.items ≡ written out.old.items at (spelling minor (QueuePresentKHR queue waits.now presents.now)) }
 {
     if minor == 2 {
-        return (queue, (waits, presents)).write(out, at);
+        (queue, (waits, presents)).write(out, at);
+        return;
     }
     match presents.items() {
-        [present] => (queue, (waits, present)).write(out, at),
+        [present] => {
+            (queue, (waits, present)).write(out, at);
+        }
         _ => unreachable!(),
     }
 }
 
-/// Puts the fields of a metadata at a place, and tells the place behind them.
+/// Puts the fields of a metadata at a place.
 #[tactic(auto, unfolding(gfx_model::specs::Spelling::fields_of, gfx_model::specs::Spelling::spelling))]
-fn write_meta(meta: &Meta<'_>, out: &mut Vec<u8>, at: usize) -> usize
+fn write_meta(meta: &Meta<'_>, out: &mut Vec<u8>, at: usize)
     requires fits { HasSpelling 1 (event_of_meta meta.now) }
     requires room { at + length (spelling 1 (event_of_meta meta.now)) ≤ length out.old.items }
     ensures { out.new.items ≡ written out.old.items at (spelling 1 (event_of_meta meta.now)) }

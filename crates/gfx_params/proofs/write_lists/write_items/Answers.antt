@@ -1,4 +1,4 @@
-use Rattle.std.proofs.Common.{◌≡◌, ◌+◌, length, take, subst, sym, ap, ◌∙◌, ◌++◌, arith, length-append}
+use Rattle.std.proofs.Common.{length, take, subst, sym, ap, ◌∙◌, ◌++◌, arith, length-append}
 use Rattle.std.specs.Prelude.{flat_map}
 use Rattle.gfx_grammar.specs.Reads.{Fits, text_of}
 use Rattle.gfx_params.proofs.Texts.{item_has_spelling, item_fits_in, text_more}

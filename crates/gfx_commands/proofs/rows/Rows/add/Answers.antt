@@ -1,6 +1,7 @@
 use Rattle.std.proofs.Common.{◌≡◌, ◌++◌, ◌∷◌, [], Some, length, is_some, refl, ap, sym, ◌∙◌, arith, length-append}
 use Rattle.std.specs.FinMap as map
 use Rattle.std.proofs.lemmas.Result.{err_from_is_err_and}
+use Rattle.gfx_table.specs.Rows.{insert_same}
 use Rattle.gfx_model.specs.Events.{event_of_call}
 use Rattle.gfx_model.specs.Steps.{resources_of}
 use Rattle.gfx_model.specs.Questions.{Buffer}
@@ -13,7 +14,7 @@ use Rattle.gfx_commands.specs.Recordings.{buffers, commands_total, bytes_total}
 use Rattle.gfx_commands.proofs.Added.{bytes_of-more}
 use Rattle.gfx_commands.proofs.Buffers.{found, recording_kept, recording_row, changed}
 use Rattle.gfx_commands.proofs.Places.{same_all}
-use Rattle.gfx_commands.proofs.Counting.{counted_over, put_back}
+use Rattle.gfx_commands.proofs.Counting.{counted_over}
 use Rattle.gfx_commands.proofs.rows.Rows.add.Goals as goal
 
 pub unreachable-requires : goal.unreachable-requires
@@ -45,7 +46,7 @@ returns-in_err-bytes-clause-err c =
     let p = err_from_is_err_and c.from_residual.result c.from_residual.ensures.1 in
     rw p.1
     (ap (λ cs. map.insert m c.args.cb (record { state = row.state; flags = row.flags; commands = cs })) c.in_err-bytes.ensures.err
-    ∙ put_back m c.args.cb row (sym c.in-Some.ensures.value) ∙ ap (λ s. s.map) c.self.view_is)
+    ∙ insert_same m c.args.cb row (sym c.in-Some.ensures.value) ∙ ap (λ s. s.map) c.self.view_is)
 
 pub invariant_of-self-2 : goal.invariant_of-self-2
 invariant_of-self-2 c =

@@ -1,13 +1,10 @@
-use Rattle.std.proofs.Common.{◌≡◌, ◌&&◌, ap, sym, ◌∙◌, subst, Bool, arith, ◌++◌, ◌∷◌, []}
+use Rattle.std.proofs.Common.{◌≡◌, ◌&&◌, refl, ap, sym, ◌∙◌, subst, Bool, arith, ◌++◌, ◌∷◌, []}
 use Rattle.std.specs.Prelude.{unwrap_or}
-use Rattle.std.specs.Cmp.{nat_cmp_total}
 use Rattle.std.specs.FinMap as map
-use Rattle.std.specs.FinMap.{get-insert}
-use Rattle.std.proofs.lemmas.Bool.Decides.{nat_tests}
 use Rattle.gfx_model.specs.Checks.Layouts.{stays}
 use Rattle.gfx_commands.specs.Uses.{IsIndex, plain, use_of, asked, accepts}
 use Rattle.gfx_commands.proofs.Index.{asked_index}
-use Rattle.gfx_commands.proofs.Places.{places_left}
+use Rattle.gfx_commands.proofs.Places.{places_put}
 use Rattle.gfx_commands.proofs.uses.Uses.ask.Goals as goal
 use Rattle.gfx_commands.proofs.uses.Uses.ask.Goals.{then-self, else-self}
 
@@ -28,9 +25,7 @@ returns-after-self-clause-index c = λ named asks index.
     subst P (sym agrees) (asked_index s.table.map s.agrees named asks index x c.args.layout (map.insert s.table.map x c.asked.result) is)
 
 pub returns-after-self-clause-places : goal.returns-after-self-clause-places
-returns-after-self-clause-places c = λ rest places.
-    places_left c.args.self.now.table _ c.args.image rest
-    (λ x. let a = get-insert nat_cmp_total c.args.self.now.table.map c.args.image c.asked.result x in grind (arith, nat_tests, a)) (omega arith) (λ some. omega arith) places
+returns-after-self-clause-places c = λ rest places. places_put c.args.self.now.table _ c.args.image c.asked.result rest refl refl places
 
 pub returns-in-None-clause-index : goal.returns-in-None-clause-index
 returns-in-None-clause-index c = λ named asks index.

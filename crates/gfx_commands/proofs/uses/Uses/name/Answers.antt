@@ -1,7 +1,5 @@
 use Rattle.std.proofs.Common.{ap, sym, ◌∙◌}
-use Rattle.std.specs.Prelude.{is_some, unwrap_or, Option, None, ◌≡◌, false}
 use Rattle.std.specs.FinMap as map
-use Rattle.gfx_commands.specs.Uses.{plain, use_of}
 use Rattle.gfx_commands.proofs.Index.{named_index}
 use Rattle.gfx_commands.proofs.Places.{missing_use}
 use Rattle.gfx_commands.proofs.uses.Uses.name.Goals as goal

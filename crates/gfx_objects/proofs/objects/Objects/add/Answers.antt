@@ -9,7 +9,7 @@ use Rattle.gfx_objects.specs.Objects.{bytes_in}
 use Rattle.gfx_objects.specs.Inside.{kept_of}
 use Rattle.gfx_objects.specs.Children.{is_at, count_of}
 use Rattle.gfx_objects.proofs.Asked.{children_few, few_pass}
-use Rattle.gfx_objects.proofs.Kept.{unused_fresh, sound_created, indexed_created}
+use Rattle.gfx_objects.proofs.Kept.{none_noted, unused_fresh, sound_created, indexed_created}
 use Rattle.gfx_objects.proofs.Grouped.{grouped_created}
 use Rattle.gfx_objects.proofs.objects.Objects.add.Goals as goal
 
@@ -59,5 +59,5 @@ invariant_of-self c =
         children = let a = room.children in let b = c.add.ensures.room in omega (arith, a, b, one, here);
         swapchains = let a = room.swapchains in let b = c.add_to.ensures.room in omega (arith, a, b, one, here);
       };
-      noted = λ n is. absurd (grind (arith, is));
+      noted = none_noted _;
     }

@@ -8,6 +8,7 @@ use Rattle.gfx_model.specs.Views.{detail_bytes}
 use Rattle.gfx_objects.specs.declared.object.Object.{Object}
 use Rattle.gfx_objects.specs.Children.{count_of}
 use Rattle.gfx_objects.specs.Object.{detail_of}
+use Rattle.gfx_objects.proofs.Kept.{none_noted}
 use Rattle.gfx_objects.proofs.Index.{total_empty}
 use Rattle.gfx_objects.proofs.Grouped.{no_groups}
 use Rattle.gfx_objects.proofs.Steps.{answers_none}
@@ -33,7 +34,7 @@ invariant_of-result c =
       grouped = no_groups c.new.result.map (is_member c.new-5.result.sets.map) (is_member c.new-6.result.sets.map) (count_of c.new-4.result.counts.map)
           c.new.ensures c.new-5.ensures c.new-6.ensures c.new-4.ensures;
       has_room = record { rows = omega arith; used = omega arith; children = omega arith; swapchains = omega arith };
-      noted = λ n is. absurd (grind (arith, is));
+      noted = none_noted _;
     }
 
 pub returns-clause-plain : goal.returns-clause-plain

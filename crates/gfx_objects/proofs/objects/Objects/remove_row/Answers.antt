@@ -7,7 +7,7 @@ use Rattle.gfx_objects.specs.Object.{detail_of}
 use Rattle.gfx_objects.specs.Inside.{kept_of}
 use Rattle.gfx_objects.specs.Children.{is_at, count_of}
 use Rattle.gfx_objects.proofs.Index.{total_removed, len_removed}
-use Rattle.gfx_objects.proofs.Kept.{sound_same, sound_removed, indexed_same, indexed_removed}
+use Rattle.gfx_objects.proofs.Kept.{none_noted, sound_same, sound_removed, indexed_same, indexed_removed}
 use Rattle.gfx_objects.proofs.Grouped.{grouped_same, grouped_removed}
 use Rattle.gfx_objects.proofs.objects.Objects.remove_row.Goals as goal
 
@@ -50,7 +50,7 @@ invariant_of-self c =
         children = let a = room.children in let b = c.remove-in-Some.ensures.room in omega (arith, a, b);
         swapchains = let a = room.swapchains in let b = c.remove_from.ensures.room in omega (arith, a, b);
       };
-      noted = λ n is. absurd (grind (arith, is));
+      noted = none_noted _;
     }
 
 pub invariant_of-self-in_default : goal.invariant_of-self-in_default
@@ -71,5 +71,5 @@ invariant_of-self-in_default c =
         children = room.children;
         swapchains = room.swapchains;
       };
-      noted = λ n is. absurd (grind (arith, is));
+      noted = none_noted _;
     }

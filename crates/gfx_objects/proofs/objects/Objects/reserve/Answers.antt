@@ -3,7 +3,7 @@ use Rattle.gfx_table.specs.Groups.{is_member}
 use Rattle.gfx_objects.specs.Inside.{kept_of}
 use Rattle.gfx_objects.specs.Children.{count_of}
 use Rattle.gfx_objects.specs.Objects.{answers}
-use Rattle.gfx_objects.proofs.Kept.{sound_same, indexed_same}
+use Rattle.gfx_objects.proofs.Kept.{none_noted, sound_same, indexed_same}
 use Rattle.gfx_objects.proofs.Grouped.{grouped_same}
 use Rattle.gfx_objects.proofs.Owned.{owned_anew}
 use Rattle.gfx_objects.proofs.Steps.{answers_same}
@@ -43,7 +43,7 @@ invariant_of-self-in_default c =
         children = let a = room.children in let b = e.children_room in omega (arith, a, b);
         swapchains = let a = room.swapchains in let b = e.swapchains_room in omega (arith, a, b);
       };
-      noted = λ n is. absurd (grind (arith, is));
+      noted = none_noted _;
     }
 
 pub returns-in_default-clause-same : goal.returns-in_default-clause-same
@@ -66,7 +66,7 @@ invariant_of-self-2 c =
       grouped = grouped_same s.rows.map n.rows.map (is_member s.owned.sets.map) (is_member c.reserve.new.self.sets.map) (is_member s.resting.sets.map) (is_member s.resting.sets.map)
           (count_of s.swapchains.counts.map) (count_of n.swapchains.counts.map) e.rows c.reserve.ensures.same refl e.swapchains c.self.invariant.grouped;
       has_room = record { rows = made.rows_made; used = made.used_made; children = made.children_made; swapchains = made.swapchains_made };
-      noted = λ n is. absurd (grind (arith, is));
+      noted = none_noted _;
     }
 
 pub returns-clause-same : goal.returns-clause-same

@@ -2,14 +2,13 @@ use Rattle.std.proofs.Common.{◌==◌, if◌then◌else◌, refl, ap, sym, subs
 use Rattle.std.specs.Prelude.{option_and_then}
 use Rattle.std.specs.FinMap as map
 use Rattle.gfx_table.specs.Groups.{is_member}
-use Rattle.gfx_model.specs.Steps.{kind_of}
 use Rattle.gfx_model.specs.Views.{detail_bytes}
 use Rattle.gfx_objects.specs.declared.object.Object.{Object}
-use Rattle.gfx_objects.specs.Object.{detail_of, memory_of, is_within}
+use Rattle.gfx_objects.specs.Object.{detail_of, memory_of}
 use Rattle.gfx_objects.specs.Objects.{RestsIn}
 use Rattle.gfx_objects.specs.Inside.{kept_of}
 use Rattle.gfx_objects.specs.Children.{is_at, count_of}
-use Rattle.gfx_objects.proofs.Kept.{sound_changed, indexed_changed}
+use Rattle.gfx_objects.proofs.Kept.{none_noted, sound_changed, indexed_changed}
 use Rattle.gfx_objects.proofs.Grouped.{grouped_changed}
 use Rattle.gfx_objects.proofs.objects.Objects.rest_on.Goals as goal
 
@@ -25,17 +24,10 @@ invariant_of-self-2 c =
     let o = c.args.object in
     let n = record c.args.object { detail = c.args.detail } in
     let some = ap (λ k. map.get k.rows c.args.id) c.self.view_is ∙ c.requires.row in
-    let old = c.self.invariant.sound.row c.args.id o some in
     let bytes = ap detail_bytes c.requires.parameters in
     record {
       sound = sound_changed (kept_of s) (record { rows = c.set.new.self.map; used = s.used; owned = s.owned.sets.map; spare = s.room }) c.args.id
-          n c.set.ensures.map o some refl
-          (record {
-            same_id = old.same_id;
-            not_zero = old.not_zero;
-            same_kind = old.same_kind ∙ ap kind_of (sym c.requires.parameters);
-            within = ap is_within c.requires.parameters ∙ old.within;
-          }) c.requires.parameters (λ b is. subst (λ k. RestsIn k (detail_of c.args.detail) b) (sym c.self.view_is) (c.requires.rests b is)) c.self.invariant.sound;
+          n c.set.ensures.map o some refl refl refl c.requires.parameters (λ b is. subst (λ k. RestsIn k (detail_of c.args.detail) b) (sym c.self.view_is) (c.requires.rests b is)) c.self.invariant.sound;
       indexed = indexed_changed s.rows.map c.set.new.self.map (count_of s.children.counts.map) s.bytes s.count c.args.id
           o n c.set.ensures.map some refl bytes c.self.invariant.indexed;
       grouped = grouped_changed s.rows.map c.set.new.self.map (is_member s.owned.sets.map) (is_member s.owned.sets.map) (is_member s.resting.sets.map) (is_member c.move_to.new.groups.sets.map)
@@ -49,5 +41,5 @@ invariant_of-self-2 c =
         children = c.self.invariant.has_room.children;
         swapchains = c.self.invariant.has_room.swapchains;
       };
-      noted = λ n is. absurd (grind (arith, is));
+      noted = none_noted _;
     }
