@@ -3,13 +3,13 @@ use Rattle.std.proofs.Common.{◌≡◌, ℕ, ◌+◌, ◌*◌, ◌<◌, ◌≤�
 use Rattle.std.specs.Io.KnownBytes.{Consumes, IsAtEnd}
 use Rattle.std.proofs.KnownBytes.{Consumes-trans}
 use Rattle.std.specs.Prelude.{IfSome}
-use Rattle.std.proofs.lemmas.Bool.{le-ltb, lt-ltb}
+use Rattle.std.proofs.lemmas.Bool.{le-ltb}
 use Rattle.gfx_types.specs.declared.names.Fault.{Fault}
 use Rattle.gfx_types.specs.declared.names.Fault.TheVariants.{Truncated}
 use Rattle.gfx_model.specs.Blocks.{Position, header_fault, minor_of, option_count, options_fault, refuse, first_position, bad}
 use Rattle.gfx_grammar.specs.Framing as framing
 use Rattle.gfx_grammar.specs.Splitting.{blocks_from, blocks_of, only_end}
-use Rattle.gfx_grammar.proofs.FramingLaws.{refuse-true, refuse-false}
+use Rattle.gfx_grammar.proofs.FramingLaws.{refuse-false}
 use Rattle.gfx_grammar.proofs.HeaderLaws.{header_fault-short, header_fault-start, header_fault-options, header-of_parts, header_length-append, minor_of-append, option_count-append, blocks_of-header, blocks_of-bad, options_fault-append, start_fault-append, start_minor, start_options}
 use Rattle.gfx_blocks.specs.declared.header.Header.{Header}
 use Rattle.gfx_io.specs.Told.{IfTold}

@@ -160,31 +160,22 @@ impl Decoder {
             State::Failed(why) => return Err(why),
             State::Fresh => unreachable!(),
         };
-        let framing = match fetch(source, at, buffer) {
-            Ok(Some(framing)) => framing,
-            Ok(None) => return Ok(None),
-            Err(why) => {
-                self.state = State::Failed(why);
-                return Err(why);
-            }
+        let Some(framed) = self.next_framed(source, buffer)? else {
+            return Ok(None);
         };
-        let next = match place_behind(at, framing, buffer) {
-            Ok(next) => next,
-            Err(why) => {
-                self.state = State::Failed(why);
-                return Err(why);
-            }
-        };
-        match block_in(self.alloc, minor, at, framing, buffer) {
-            Ok(block) => {
-                self.state = State::At { minor, at: next };
-                Ok(Some(Raw {
-                    block,
-                    bytes: buffer,
-                    number: at.number,
-                    offset: at.offset,
-                }))
-            }
+        let FramedBlock {
+            framing,
+            bytes,
+            number,
+            offset,
+        } = framed;
+        match block_in(self.alloc, minor, at, framing, bytes) {
+            Ok(block) => Ok(Some(Raw {
+                block,
+                bytes,
+                number,
+                offset,
+            })),
             Err(why) => {
                 self.state = State::Failed(why);
                 Err(why)
