@@ -10,14 +10,14 @@ use Rattle.gfx_types.specs.declared.names.Kind.{Kind}
 use Rattle.gfx_types.specs.declared.names.Kind.TheVariants as kind
 use Rattle.gfx_types.specs.declared.op.Place.TheVariants as place
 use Rattle.gfx_model.specs.Events.{Event}
-use Rattle.gfx_model.specs.Events.Event.{AllocateMemory, FillMemory, MapMemory, CreateBuffer, BindBufferMemory, CreateImage, BindImageMemory, InitImage, CreateSwapchainKHR, SetSwapchainState, CreateFence, CreateSemaphore, SetSemaphoreState, CreateCommandPool, EndCommandBuffer, CmdPipelineBarrier, CmdFillBuffer, CmdUpdateBuffer, CmdCopyBuffer, CmdCopyImage, CmdCopyBufferToImage, CmdCopyImageToBuffer, CmdClearColorImage, BeginSection, EndSection}
+use Rattle.gfx_model.specs.Events.Event.{AllocateMemory, FillMemory, MapMemory, CreateBuffer, BindBufferMemory, CreateImage, BindImageMemory, InitImage, CreateSwapchainKHR, SetSwapchainState, CreateFence, CreateSemaphore, SetSemaphoreState, CreateCommandPool, EndCommandBuffer, CmdPipelineBarrier, CmdFillBuffer, CmdUpdateBuffer, CmdCopyBuffer, CmdCopyImage, CmdCopyBufferToImage, CmdCopyImageToBuffer, CmdClearColorImage}
 use Rattle.gfx_model.specs.Steps.{Object, Detail, Change, kind_of, kind_number}
 use Rattle.gfx_model.specs.Steps.Detail.{an_instance, a_surface, a_device, a_queue, a_memory, a_buffer, an_image, a_pool, a_command_buffer, a_fence, a_semaphore, a_swapchain}
 use Rattle.gfx_model.specs.Questions.{Binding, Range, Buffer, State, passes, image_size, is_kept}
 use Rattle.gfx_model.specs.Views.{View, is_live, is_one, is_usable, parent_of, fetched, has_index, images_in}
 use Rattle.gfx_model.specs.Covers.{is_fetched}
 use Rattle.gfx_model.specs.Bytes.{byte, bytes_at}
-use Rattle.gfx_model.specs.Section.{Known, Span, fills_of, when, fill_events, map_event, bind_event, layout_event, image_event, mark, marks_of, fetch_event, allocate_event, recording_events, object_events, group, section_order}
+use Rattle.gfx_model.specs.Section.{Known, Span, fills_of, when, fill_events, map_event, bind_event, layout_event, image_event, mark, marks_of, fetch_event, allocate_event, recording_events, object_events}
 use Rattle.gfx_feature_model.specs.Lean.{Keep, subject_of, allocated, kept_block, kept_events}
 use Rattle.gfx_model.proofs.Lists.{all_append, all_map, all_along, all_flat_map}
 use Rattle.gfx_laws.specs.Lawful.{IsLawful, IsCommandOf, base, cb_of}
@@ -25,7 +25,7 @@ use Rattle.gfx_laws.proofs.Cases.{by_test}
 use Rattle.gfx_laws.proofs.Lists.{all_into_map}
 use Rattle.gfx_laws.proofs.SameFrames.{all_filter}
 use Rattle.gfx_lean_law.proofs.Only.{only, IsClosed}
-use Rattle.gfx_lean_law.proofs.Answers.{live_only, kind_only, parent_only, buffer_only, signalled_only, acquired_only, layout_only, mapped_only, bound_only, window_only, fetched_only, parent_kept}
+use Rattle.gfx_lean_law.proofs.Answers.{kind_only, parent_only, buffer_only, signalled_only, acquired_only, layout_only, mapped_only, bound_only, window_only, fetched_only, parent_kept}
 use Rattle.gfx_lean_law.proofs.Words.{fetched_kept}
 use Rattle.gfx_lean_law.proofs.Zeros.{zeros, kept_fills, image_bytes_stay}
 
@@ -297,7 +297,7 @@ module _ (k : ℕ → Bool) (keep : Keep) (v : View) (es : List Change) (c : IsC
 
   -- ---- an object
 
-  object_kept : (x parent : ℕ) (d : Detail) → v.live x ≡ Some (record { parent = parent; detail = d }) → keep.id x ≡ true → k x ≡ true →
+  pub object_kept : (x parent : ℕ) (d : Detail) → v.live x ≡ Some (record { parent = parent; detail = d }) → keep.id x ≡ true → k x ≡ true →
       flat_map ke (object_events s x parent d) ≡ object_events t x parent d
   object_kept x parent (an_instance api) e o on = own_stays x o _ ((refl, refl), tt)
   object_kept x parent a_surface e o on = own_stays x o _ ((refl, refl), tt)
@@ -348,7 +348,7 @@ module _ (k : ℕ → Bool) (keep : Keep) (v : View) (es : List Change) (c : IsC
       ∙ ap (λ l. allocate_event parent x l ++ flat_map (record_in t) l) (sym (buffers_kept x v.ids)))
   object_kept x parent a_command_buffer e o on = refl
 
-  object_goes : (x parent : ℕ) (d : Detail) → v.live x ≡ Some (record { parent = parent; detail = d }) → keep.id x ≡ false → flat_map ke (object_events s x parent d) ≡ []
+  pub object_goes : (x parent : ℕ) (d : Detail) → v.live x ≡ Some (record { parent = parent; detail = d }) → keep.id x ≡ false → flat_map ke (object_events s x parent d) ≡ []
   object_goes x parent (an_instance api) e o = own_goes x o (object_events s x parent (an_instance api)) ((refl, refl), tt)
   object_goes x parent a_surface e o = own_goes x o (object_events s x parent a_surface) ((refl, refl), tt)
   object_goes x parent a_device e o = own_goes x o (object_events s x parent a_device) ((refl, refl), tt)
@@ -385,53 +385,3 @@ module _ (k : ℕ → Bool) (keep : Keep) (v : View) (es : List Change) (c : IsC
           (same x (ap is_some e) ∙ ap k (sym (eqb-true (parent_of v cb) x up)) ∙ parent_kept k v c cb (sym (live_id kind.CommandBuffer cb there) ∙ on))))
           (λ off. off)
   object_goes x parent a_command_buffer e o = refl
-
-  -- ---- the objects of a kind
-
-  abbrev blocks_in : Known → ℕ → List Event
-  blocks_in u x = option_map_or (λ (o : Object). object_events u x o.parent o.detail) (u.answers.live x) []
-
-  one_kept : (x : ℕ) → k x ≡ true → flat_map ke (blocks_in s x) ≡ blocks_in t x
-  one_kept x on = by (v.live x) refl ∙ sym (ap (λ l. option_map_or (λ (o : Object). object_events t x o.parent o.detail) l []) (live_only k v x on))
-    where
-      by : (l : Option Object) → v.live x ≡ l → flat_map ke (option_map_or (λ (o : Object). object_events s x o.parent o.detail) l []) ≡ option_map_or (λ (o : Object). object_events t x o.parent o.detail) l []
-      by None e = refl
-      by (Some o) e = object_kept x o.parent o.detail e (same x (ap is_some e) ∙ on) on
-
-  one_goes : (x : ℕ) → k x ≡ false → flat_map ke (blocks_in s x) ≡ []
-  one_goes x off = by (v.live x) refl
-    where
-      by : (l : Option Object) → v.live x ≡ l → flat_map ke (option_map_or (λ (o : Object). object_events s x o.parent o.detail) l []) ≡ []
-      by None e = refl
-      by (Some o) e = object_goes x o.parent o.detail e (same x (ap is_some e) ∙ off)
-
-  some_kept : (j : Kind) (ids : List ℕ) → flat_map ke (flat_map (blocks_in s) (filter (is_live v j) ids)) ≡ flat_map (blocks_in t) (filter (is_live w j) (filter k ids))
-  some_kept j [] = refl
-  some_kept j (x ∷ ids) = by (is_live v j x) (k x) refl refl (some_kept j ids)
-    where
-      by : (a b : Bool) → is_live v j x ≡ a → k x ≡ b → flat_map ke (flat_map (blocks_in s) (filter (is_live v j) ids)) ≡ flat_map (blocks_in t) (filter (is_live w j) (filter k ids)) →
-          flat_map ke (flat_map (blocks_in s) (cond a (x ∷ filter (is_live v j) ids) (filter (is_live v j) ids)))
-          ≡ flat_map (blocks_in t) (filter (is_live w j) (cond b (x ∷ filter k ids) (filter k ids)))
-      by true true a b more =
-          flat_map-append ke (blocks_in s x) (flat_map (blocks_in s) (filter (is_live v j) ids))
-          ∙ ap (λ l. l ++ flat_map ke (flat_map (blocks_in s) (filter (is_live v j) ids))) (one_kept x b)
-          ∙ ap (λ r. blocks_in t x ++ r) more
-          ∙ sym (ap (λ u. flat_map (blocks_in t) (cond u (x ∷ filter (is_live w j) (filter k ids)) (filter (is_live w j) (filter k ids)))) (kind_only k v j x b ∙ a))
-      by true false a b more =
-          flat_map-append ke (blocks_in s x) (flat_map (blocks_in s) (filter (is_live v j) ids))
-          ∙ ap (λ l. l ++ flat_map ke (flat_map (blocks_in s) (filter (is_live v j) ids))) (one_goes x b)
-          ∙ more
-      by false true a b more =
-          more ∙ sym (ap (λ u. flat_map (blocks_in t) (cond u (x ∷ filter (is_live w j) (filter k ids)) (filter (is_live w j) (filter k ids)))) (kind_only k v j x b ∙ a))
-      by false false a b more = more
-
-  groups_kept : (ks : List Kind) → flat_map ke (flat_map (group s) ks) ≡ flat_map (group t) ks
-  groups_kept [] = refl
-  groups_kept (j ∷ ks) =
-      flat_map-append ke (group s j) (flat_map (group s) ks) ∙ ap (λ l. l ++ flat_map ke (flat_map (group s) ks)) (some_kept j v.ids) ∙ ap (λ r. group t j ++ r) (groups_kept ks)
-
-  pub section_kept : (n : ℕ) →
-      flat_map ke (BeginSection n ∷ flat_map (group s) section_order ++ EndSection n ∷ []) ≡ BeginSection n ∷ flat_map (group t) section_order ++ EndSection n ∷ []
-  section_kept n =
-      ap (λ r. BeginSection n ∷ r)
-      (flat_map-append ke (flat_map (group s) section_order) (EndSection n ∷ []) ∙ ap (λ l. l ++ EndSection n ∷ []) (groups_kept section_order))

@@ -35,7 +35,7 @@ use Rattle.gfx_lean_law.proofs.Only.{only, IsClosed}
 use Rattle.gfx_lean_law.proofs.OnlyLawful.{lawful_only, complete_only, picked}
 use Rattle.gfx_lean_law.proofs.Needs.{kept_or_new, closed_needed, range_keeps}
 use Rattle.gfx_lean_law.proofs.Zeros.{zeros, image_bytes_stay, byte_stays, byte_or_zero}
-use Rattle.gfx_lean_law.proofs.KeptBlocks.{section_kept}
+use Rattle.gfx_lean_law.proofs.KeptSection.{section_kept}
 use Rattle.gfx_lean_law.proofs.Simulation.{CoversKept}
 use Rattle.gfx_lean_law.proofs.Range.{range_kept}
 

@@ -12,6 +12,7 @@ pub mod OnlyLawful
 pub mod Needs
 pub mod Zeros
 pub mod KeptBlocks
+pub mod KeptSection
 pub mod KeptCovers
 pub mod LeanFiles
 pub mod Computed

@@ -7,4 +7,5 @@ pub mod Between
 pub mod Tokens
 pub mod Places
 pub mod Mapping
+pub mod RenumberedParts
 pub mod Renumbering

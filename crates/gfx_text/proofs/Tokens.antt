@@ -1,8 +1,8 @@
 -- Fields that are read one after the other.
-use Rattle.std.proofs.Common.{◌≡◌, ℕ, List, [], ◌∷◌, length, map, Option, Some, None, refl, ap, ◌∙◌, codes}
+use Rattle.std.proofs.Common.{◌≡◌, ℕ, List, Option, Some, None, ap, ◌∙◌, codes}
 use Rattle.gfx_grammar.specs.Reading.{◌>>=◌, Reader}
 use Rattle.gfx_text_grammar.specs.Reading.{behind}
-use Rattle.gfx_text_grammar.specs.FieldReading.{whole, without_front, read_first, named_value}
+use Rattle.gfx_text_grammar.specs.FieldReading.{whole, without_front, named_value}
 use Rattle.gfx_text.proofs.Fronts.{fronts_join}
 
 -- ---- a token

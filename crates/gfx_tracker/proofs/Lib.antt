@@ -1,5 +1,6 @@
 pub mod Told
 pub mod Registered
+pub mod Flagged
 pub mod Gathered
 pub mod Meeting
 pub mod EndedUsers

@@ -2,7 +2,7 @@ use Rattle.std.proofs.Common.{◌≡◌, ◌⊎◌, take, sym, ap, subst, arith}
 use Rattle.std.proofs.lemmas.Result.{on_ok_weaker}
 use Rattle.gfx_fan.specs.Groups.{Remains}
 use Rattle.gfx_fan.proofs.Feeding.{alike_none}
-use Rattle.gfx_fan.proofs.Grouping.{are_decoded, inside_front, no_blocks}
+use Rattle.gfx_fan.proofs.Answering.{are_decoded, inside_front, no_blocks}
 use Rattle.gfx_fan.proofs.feed.feed_front.Goals as goal
 
 pub decode_all-requires-clause-version : goal.decode_all-requires-clause-version

@@ -3,7 +3,8 @@ use Rattle.std.proofs.Math.Seq.{take-length}
 use Rattle.std.proofs.lemmas.List.{drop_all}
 use Rattle.std.proofs.lemmas.Result.{on_ok_weaker}
 use Rattle.gfx_fan.proofs.Feeding.{alike_none}
-use Rattle.gfx_fan.proofs.Grouping.{are_decoded, bad_answers, bad_below, bad_block, first_bad_of, inside_front, no_blocks, picked_as, remains_none}
+use Rattle.gfx_fan.proofs.Grouping.{picked_as, remains_none}
+use Rattle.gfx_fan.proofs.Answering.{are_decoded, bad_answers, bad_below, bad_block, first_bad_of, inside_front, no_blocks}
 use Rattle.gfx_fan.proofs.feed.feed_group.Goals as goal
 
 pub decode_all-requires-clause-version : goal.decode_all-requires-clause-version

@@ -2,7 +2,7 @@ use Rattle.std.proofs.Common.{◌≡◌, true, sym, subst}
 use Rattle.gfx_tracker.specs.Registered.{IsRegistered, registered}
 use Rattle.gfx_model.specs.After.{after}
 use Rattle.gfx_model.specs.Steps.Step.{acquires}
-use Rattle.gfx_tracker.proofs.Registered.{registered_marked, answers_acquired, marks_enough}
+use Rattle.gfx_tracker.proofs.Flagged.{registered_marked, answers_acquired, marks_enough}
 use Rattle.gfx_tracker.proofs.registry.Registry.acquire.Goals as goal
 
 pub set-requires : goal.set-requires

@@ -2,7 +2,7 @@ use Rattle.std.proofs.Common.{◌≡◌, true, sym, subst}
 use Rattle.gfx_tracker.specs.Registered.{IsRegistered, registered}
 use Rattle.gfx_model.specs.After.{after}
 use Rattle.gfx_model.specs.Steps.Step.{signals}
-use Rattle.gfx_tracker.proofs.Registered.{registered_set, answers_signalled}
+use Rattle.gfx_tracker.proofs.Flagged.{registered_set, answers_signalled}
 use Rattle.gfx_tracker.proofs.registry.Registry.signal.Goals as goal
 
 pub invariant_of-self : goal.invariant_of-self

@@ -2,7 +2,7 @@ use Rattle.std.proofs.Common.{◌≡◌, false, sym, subst}
 use Rattle.gfx_tracker.specs.Registered.{IsRegistered, registered}
 use Rattle.gfx_model.specs.After.{after}
 use Rattle.gfx_model.specs.Steps.Step.{unsignals}
-use Rattle.gfx_tracker.proofs.Registered.{registered_set, answers_unsignalled}
+use Rattle.gfx_tracker.proofs.Flagged.{registered_set, answers_unsignalled}
 use Rattle.gfx_tracker.proofs.registry.Registry.unsignal.Goals as goal
 
 pub invariant_of-self : goal.invariant_of-self

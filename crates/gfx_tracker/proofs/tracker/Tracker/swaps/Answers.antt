@@ -1,5 +1,5 @@
 use Rattle.gfx_tracker.specs.Tracker.{answers}
-use Rattle.gfx_tracker.proofs.Registered.{marks_counted}
+use Rattle.gfx_tracker.proofs.Flagged.{marks_counted}
 use Rattle.gfx_tracker.proofs.tracker.Tracker.swaps.Goals as goal
 
 pub returns-clause-images : goal.returns-clause-images
