@@ -1,9 +1,8 @@
 //! Commands that are recorded in batches.
-ghost use Rattle.std.specs.Prelude.{◌≡◌, ◌≤◌, All, length};
+ghost use Rattle.std.specs.Prelude.{◌≡◌, ◌<◌, ◌≤◌, All, length};
 ghost use Rattle.gfx_callers.specs.Caller.{CallsAt};
 
 use crate::blocks::{behind_header, split_block};
-use crate::taking::take_last;
 use gfx_callers::{Caller, Objects, Plan, Use, close, open, put_barriers, run_all};
 use gfx_capture::{AppendFault, Capture, Log, Receipt};
 use gfx_types::Fault;
@@ -71,21 +70,14 @@ fn record<R: Abort + Wait>(rt: &R, alloc: Global, capture: &Capture, caller: &mu
     assert_eq!(rt; caller.send(rt, capture), Ok(nothing), "nothing waits");
 }
 
-/// One thread records, and is given back.
-fn record_alone<R: Abort + Wait>(
-    rt: &R,
-    alloc: Global,
-    capture: &Capture,
-    callers: Vec<Caller>,
-) -> Vec<Caller>
-    requires { All (λ c. CallsAt c capture.now) callers.items }
-    ensures capture { All (λ c. CallsAt c capture.now) result.items }
-    ensures count { length result.items ≡ 1 }
+/// One thread records.
+fn record_alone<R: Abort + Wait>(rt: &R, alloc: Global, capture: &Capture, callers: &mut [Caller])
+    requires some { 0 < length callers.old }
+    requires capture { All (λ c. CallsAt c capture.now) callers.old }
+    ensures capture { All (λ c. CallsAt c capture.now) callers.new }
+    ensures count { length callers.new ≡ length callers.old }
 {
-    let mut callers = callers;
-    let mut caller = take_last(rt, capture, &mut callers);
-    record(rt, alloc, capture, &mut caller);
-    vec![in alloc; caller].expect(rt, "memory")
+    record(rt, alloc, capture, &mut callers[0]);
 }
 
 /// An instance, a device, a queue, a pool, a command buffer and its begin, and then barriers.
@@ -101,8 +93,8 @@ fn assert_length<R: Abort>(rt: &R, log: &Log) {
 #[test]
 fn barriers_stand_in_batches(rt: HostRuntime) -> Result<(), Fail> {
     let alloc = rt.alloc();
-    let (capture, callers) = open(alloc, 1)?;
-    let callers = record_alone(&rt, alloc, &capture, callers);
+    let (capture, mut callers) = open(alloc, 1)?;
+    record_alone(&rt, alloc, &capture, callers.as_mut_slice());
     let log = close(alloc, capture, callers)?;
     assert_length(&rt, &log);
     Ok(())

@@ -8,6 +8,4 @@ mod blocks;
 #[cfg(test)]
 mod many_threads;
 #[cfg(test)]
-mod taking;
-#[cfg(test)]
 mod two_passes;

@@ -2,7 +2,6 @@
 ghost use Rattle.std.specs.Prelude.{◌≡◌, All, length};
 ghost use Rattle.gfx_callers.specs.Caller.{CallsAt};
 
-use crate::taking::take_last;
 use gfx_callers::{Caller, Creation, Use, close, open};
 use gfx_capture::{AppendFault, Capture, Log, Receipt};
 use gfx_types::Fault;
@@ -43,23 +42,17 @@ fn act<R: Abort + Wait>(
     assert_eq!(rt; first.written(capture), 2);
 }
 
-/// Both passes act, and are given back.
-fn act_both<R: Abort + Wait>(
-    rt: &R,
-    alloc: Global,
-    capture: &Capture,
-    callers: Vec<Caller>,
-) -> Vec<Caller>
-    requires { All (λ c. CallsAt c capture.now) callers.items }
-    ensures capture { All (λ c. CallsAt c capture.now) result.items }
-    ensures count { length result.items ≡ 2 }
+/// Both passes act.
+fn act_both<R: Abort + Wait>(rt: &R, alloc: Global, capture: &Capture, callers: &mut [Caller])
+    requires both { length callers.old ≡ 2 }
+    requires capture { All (λ c. CallsAt c capture.now) callers.old }
+    ensures capture { All (λ c. CallsAt c capture.now) callers.new }
+    ensures count { length callers.new ≡ length callers.old }
 {
-    let mut callers = callers;
-    let mut first = take_last(rt, capture, &mut callers);
-    let mut second = take_last(rt, capture, &mut callers);
+    let (last, first) = callers.split_at_mut(1);
+    let (second, first) = (&mut last[0], &mut first[0]);
     assert_eq!(rt; (first.thread(), second.thread()), (0, 1));
-    act(rt, alloc, capture, &mut first, &mut second);
-    vec![in alloc; first, second].expect(rt, "memory")
+    act(rt, alloc, capture, first, second);
 }
 
 /// Both blocks stand under their threads.
@@ -74,8 +67,8 @@ fn assert_both<R: Abort>(rt: &R, log: &Log) {
 #[test]
 fn two_passes_share_one_history(rt: HostRuntime) -> Result<(), Fail> {
     let alloc = rt.alloc();
-    let (capture, callers) = open(alloc, 2)?;
-    let callers = act_both(&rt, alloc, &capture, callers);
+    let (capture, mut callers) = open(alloc, 2)?;
+    act_both(&rt, alloc, &capture, callers.as_mut_slice());
     let log = close(alloc, capture, callers)?;
     assert_both(&rt, &log);
     Ok(())

@@ -2,8 +2,6 @@
 #![tactic(auto)]
 
 #[cfg(test)]
-mod gathered;
-#[cfg(test)]
 mod logs;
 #[cfg(test)]
 mod recording;
