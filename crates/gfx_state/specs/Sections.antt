@@ -1,14 +1,19 @@
 -- What is kept of a section, from what is known.
-use Rattle.std.specs.Prelude.{ℕ, if◌then◌else◌, true, List, [], ◌∷◌, ◌++◌, filter, flat_map}
+use Rattle.std.specs.Prelude.{ℕ, if◌then◌else◌, true, List, [], ◌∷◌, ◌++◌, filter, flat_map, Option, option_map}
 use Rattle.std.specs.Option.{option_map_or}
 use Rattle.gfx_types.specs.declared.names.Kind.{Kind}
 use Rattle.gfx_model.specs.Events.{Event}
 use Rattle.gfx_model.specs.Events.Event.{AllocateMemory, CreateCommandPool, BeginSection, EndSection}
-use Rattle.gfx_model.specs.Steps.{Detail}
+use Rattle.gfx_model.specs.Steps.{Detail, kind_of}
+use Rattle.gfx_model.specs.Views.{View}
 use Rattle.gfx_model.specs.Steps.Detail.{a_memory, a_pool}
 use Rattle.gfx_model.specs.Section.{Known, live_ids, fill_events, map_event, allocate_event, buffers_of, object_events, section_order}
 use Rattle.gfx_feature_model.specs.Lean.{Keep, kept_block}
 use Rattle.gfx_state.specs.Pools.{recorded_anew}
+
+-- the kind of the live object of an id
+abbrev pub kind_at : View → ℕ → Option Kind
+kind_at v x = option_map (λ o. kind_of o.detail) (v.live x)
 
 -- all is kept
 abbrev pub everything : Keep

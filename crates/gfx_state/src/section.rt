@@ -1,15 +1,16 @@
 //! The whole section.
-ghost use Rattle.std.specs.Prelude.{◌≡◌, ◌≤◌, ◌∷◌, [], List, Err, flat_map, OnOk, OnErr};
+ghost use Rattle.std.specs.Prelude.{◌≡◌, ◌≤◌, ◌==◌, ◌∷◌, [], false, List, Err, flat_map, map as each, IfOk, OnOk, OnErr};
 ghost use Rattle.std.specs.Io.KnownBytes.{Appends};
 ghost use Rattle.gfx_io.specs.Causes.{Rose};
 ghost use Rattle.gfx_io.specs.Pieces.{AppendsPart};
 ghost use Rattle.gfx_model.specs.Events.Event.{BeginSection, EndSection};
 ghost use Rattle.gfx_model.specs.Spelling.{encoding};
-ghost use Rattle.gfx_model.specs.Steps.{Change};
+ghost use Rattle.std.specs.Option.{option_map_or};
+ghost use Rattle.gfx_model.specs.Steps.{Change, kind_number};
 ghost use Rattle.gfx_commands.specs.Recordings.{buffers};
 ghost use Rattle.gfx_state.specs.Parts.{answers_in};
 ghost use Rattle.gfx_state.specs.Pools.{CommandsFit};
-ghost use Rattle.gfx_state.specs.Sections.{kept_at, kept_group, kept_by};
+ghost use Rattle.gfx_state.specs.Sections.{kind_at, kept_at, kept_group, kept_by};
 ghost use Rattle.gfx_state.specs.Stored.{HasPlaces, IsStored};
 ghost use Rattle.gfx_state.specs.Written.{Wrote, Counted};
 
@@ -22,7 +23,7 @@ use crate::writer::write_effect;
 use gfx_device::StateBytes;
 use gfx_io::Sink;
 use gfx_types::{Effect, Kind};
-use std::alloc::Global;
+use std::alloc::{AllocError, Global};
 
 /// The kinds in the order of a section. An image of a swapchain and a command buffer stand with their parents.
 const ORDER: [Kind; 11] = [
@@ -60,6 +61,34 @@ fn write_at<B: StateBytes, P: Keep, K: Sink>(
     }
 }
 
+// The kind of the live object of an id, where there is one.
+fn kind_of(parts: &Parts<'_>, id: u64) -> Option<Kind>
+    ensures { result ≡ kind_at (answers_in parts.now) id }
+{
+    match parts.objects.get(id) {
+        Some(object) => Some(object.kind),
+        None => None,
+    }
+}
+
+// The same of each of these ids.
+fn kinds_of(alloc: Global, parts: &Parts<'_>, ids: &[u64]) -> Result<Vec<Option<Kind>>, AllocError>
+    ensures { IfOk result (λ kinds. kinds.items ≡ each (kind_at (answers_in parts.now)) ids.now) }
+{
+    let mut kinds = Vec::new(alloc);
+    'ids: for id in ids {
+        kinds.push(kind_of(parts, *id))?;
+    }
+    Ok(kinds)
+}
+
+// Whether what was found is of the kind.
+fn is_of(found: Option<Kind>, kind: Kind) -> bool
+    ensures { result ≡ option_map_or (λ k. kind_number k == kind_number kind) found false }
+{
+    found == Some(kind)
+}
+
 // Writes what is kept of those of the live objects that are of a kind.
 fn write_kind<B: StateBytes, P: Keep, K: Sink>(
     sink: &mut K,
@@ -68,18 +97,20 @@ fn write_kind<B: StateBytes, P: Keep, K: Sink>(
     bytes: &B,
     keep: &P,
     ids: &[u64],
+    found: &[Option<Kind>],
     kind: Kind,
 ) -> Result<(), StateFault>
     requires ids { ids.now ≡ (answers_in parts.now).ids }
+    requires found { found.now ≡ each (kind_at (answers_in parts.now)) ids.now }
     requires fit { CommandsFit (buffers parts.now.recordings.now) }
     requires places { HasPlaces (answers_in parts.now) (B.bytes bytes.now) }
     ensures written { (es : List Change) → IsStored (answers_in parts.now) (B.bytes bytes.now) es → Wrote (K.taken sink.old) (K.taken sink.new) (K.faults sink.old) (K.faults sink.new)
         (kept_group (P.kept keep.now) (record { answers = answers_in parts.now; es = es }) kind) result }
     ensures counts { Counted (K.faults sink.old) (K.faults sink.new) result }
 {
-    'ids: for id in ids {
-        if parts.objects.is_live(kind, *id) {
-            write_at(sink, room, parts, bytes, keep, *id)?;
+    'ids: for at in 0..ids.len() {
+        if is_of(found[at], kind) {
+            write_at(sink, room, parts, bytes, keep, ids[at])?;
         }
     }
     Ok(())
@@ -93,9 +124,11 @@ fn write_kinds<B: StateBytes, P: Keep, K: Sink>(
     bytes: &B,
     keep: &P,
     ids: &[u64],
+    found: &[Option<Kind>],
     kinds: &[Kind],
 ) -> Result<(), StateFault>
     requires ids { ids.now ≡ (answers_in parts.now).ids }
+    requires found { found.now ≡ each (kind_at (answers_in parts.now)) ids.now }
     requires fit { CommandsFit (buffers parts.now.recordings.now) }
     requires places { HasPlaces (answers_in parts.now) (B.bytes bytes.now) }
     ensures written { (es : List Change) → IsStored (answers_in parts.now) (B.bytes bytes.now) es → Wrote (K.taken sink.old) (K.taken sink.new) (K.faults sink.old) (K.faults sink.new)
@@ -103,7 +136,7 @@ fn write_kinds<B: StateBytes, P: Keep, K: Sink>(
     ensures counts { Counted (K.faults sink.old) (K.faults sink.new) result }
 {
     'kinds: for kind in kinds {
-        write_kind(sink, room, parts, bytes, keep, ids, *kind)?;
+        write_kind(sink, room, parts, bytes, keep, ids, found, *kind)?;
     }
     Ok(())
 }
@@ -147,8 +180,9 @@ fn write_all<B: StateBytes, P: Keep, K: Sink>(
     ensures counts { Counted (K.faults sink.old) (K.faults sink.new) result }
 {
     let ids = parts.objects.ids(room.alloc)?;
+    let found = kinds_of(room.alloc, parts, &ids)?;
     write_begin(sink, room, frame)?;
-    write_kinds(sink, room, parts, bytes, keep, &ids, &ORDER)?;
+    write_kinds(sink, room, parts, bytes, keep, &ids, &found, &ORDER)?;
     write_end(sink, room, frame)
 }
 

@@ -15,6 +15,6 @@ invariant-ids g l =
     let v = answers_in l.parts in
     record {
       written : (es : List Change) → IsStored v (g.B.StateBytes.bytes l.bytes) es → Leads (sink.taken l.fn.sink) (sink.taken l.sink) (sink.faults l.fn.sink) (sink.faults l.sink)
-          (flat_map (kept_at (g.P.Keep.kept l.keep) (record { answers = v; es = es })) (filter (is_live v l.kind) l.ids)) (flat_map (kept_at (g.P.Keep.kept l.keep) (record { answers = v; es = es })) (filter (is_live v l.kind) (drop l.id-index l.ids)));
+          (flat_map (kept_at (g.P.Keep.kept l.keep) (record { answers = v; es = es })) (filter (is_live v l.kind) l.ids)) (flat_map (kept_at (g.P.Keep.kept l.keep) (record { answers = v; es = es })) (filter (is_live v l.kind) (drop l.at l.ids)));
       later : sink.faults l.fn.sink ≤ sink.faults l.sink;
     }
