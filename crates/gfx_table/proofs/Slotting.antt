@@ -331,7 +331,7 @@ module _ {X : Type 0} where
       → find nat_cmp q (filled (take (k + 1) slots)) ≡ option_or (find nat_cmp q (filled (take k slots))) (row_in o q)
   found_after slots k q o lt is = found_next slots k q lt ∙ ap (λ o. option_or (find nat_cmp q (filled (take k slots))) (row_in o q)) (get_or_default slots k None o lt ∙ sym is)
 
-  pub slot_after : (slots : List (Option (ℕ × X))) (k : ℕ) (o : Option (ℕ × X)) → k < length slots → o ≡ slice_index_or slots k o
+  slot_after : (slots : List (Option (ℕ × X))) (k : ℕ) (o : Option (ℕ × X)) → k < length slots → o ≡ slice_index_or slots k o
       → filled (take (k + 1) slots) ≡ filled (take k slots) ++ filled (o ∷ [])
   slot_after slots k o lt is = filled_next slots k lt ∙ ap (λ o. filled (take k slots) ++ filled (o ∷ [])) (get_or_default slots k None o lt ∙ sym is)
 

@@ -1,5 +1,5 @@
 -- What stands in other slots once they are spread anew.
-use Rattle.std.proofs.Common.{◌≡◌, ℕ, zero, suc, ◌<◌, nat_lt, if◌then◌else◌, is_some, ◌&&◌, Bool, true, false, subst, List, [], ◌∷◌, length, ◌+◌, bit_and, slice_set, slice_index_or, take, Option, Some, None, sym, ap, ◌∙◌, arith}
+use Rattle.std.proofs.Common.{◌≡◌, ℕ, zero, suc, ◌<◌, nat_lt, if◌then◌else◌, is_some, ◌&&◌, Bool, true, false, subst, List, [], ◌∷◌, ◌++◌, length, ◌+◌, bit_and, slice_set, slice_index_or, take, Option, Some, None, refl, sym, ap, ◌∙◌, arith}
 use Rattle.std.specs.Option.{option_or}
 use Rattle.std.specs.Ordering.{nat_cmp}
 use Rattle.std.specs.Map.{lookup}
@@ -14,8 +14,15 @@ use Rattle.gfx_table.proofs.Joining.{lookup_find, get-joined, same_keys, option_
 use Rattle.gfx_table.proofs.Slotting.{none_filled, StandsAt, IsOf, placed_set, changed, own_set, found_after}
 
 module _ {X : Type 0} where
+  -- one more free slot
+  pub free_more : (slots : List (Option (ℕ × X))) → ((i : ℕ) → slot_at slots i ≡ None) → (i : ℕ) → slot_at (slots ++ (None ∷ [])) i ≡ None
+  free_more [] free zero = refl
+  free_more [] free (suc i) = refl
+  free_more (x ∷ slots) free zero = free 0
+  free_more (x ∷ slots) free (suc i) = free_more slots (λ i. free (suc i)) i
+
   -- no slot has anything
-  pub none_placed : (mask : ℕ) (slots : List (Option (ℕ × X))) → ((i : ℕ) → slot_at slots i ≡ None) → ArePlaced mask slots × ((q : ℕ) → find nat_cmp q (filled slots) ≡ None)
+  none_placed : (mask : ℕ) (slots : List (Option (ℕ × X))) → ((i : ℕ) → slot_at slots i ≡ None) → ArePlaced mask slots × ((q : ℕ) → find nat_cmp q (filled slots) ≡ None)
   none_placed mask slots empty = (
     record {
       group = λ i e at. absurd (not i e at);
@@ -36,7 +43,7 @@ module _ {X : Type 0} where
   stands (Some d ∷ slots) (suc i) e at = let rest = stands slots i e at in grind (arith, nat_tests, rest)
 
   -- the entry of a new id is put into a free slot of its group
-  pub spread_slot : (mask : ℕ) (slots : List (Option (ℕ × X))) (first s id : ℕ) (row : X) → ArePlaced mask slots → s < length slots → first ≡ bit_and id mask → IsInGroup first s
+  spread_slot : (mask : ℕ) (slots : List (Option (ℕ × X))) (first s id : ℕ) (row : X) → ArePlaced mask slots → s < length slots → first ≡ bit_and id mask → IsInGroup first s
       → slot_at slots s ≡ None → find nat_cmp id (filled slots) ≡ None
       → ArePlaced mask (slice_set slots s (Some (id, row))) × ((q : ℕ) → find nat_cmp q (filled (slice_set slots s (Some (id, row)))) ≡ option_or (find nat_cmp q (filled slots)) (row_in (Some (id, row)) q))
   spread_slot mask slots first s id row placed lt at group free none = (placed_set mask slots s id (Some (id, row)) placed lt within only mine, same)
@@ -69,7 +76,7 @@ module _ {X : Type 0} where
   slot_take (x ∷ slots) (suc k) (suc i) = let rest = slot_take slots k i in grind (arith, nat_tests, rest)
 
   -- the id in a slot stands in none before it
-  pub none_before : (slots : List (Option (ℕ × X))) (k : ℕ) (e : ℕ × X) → StandOnce slots → slot_at slots k ≡ Some e → find nat_cmp e.0 (filled (take k slots)) ≡ None
+  none_before : (slots : List (Option (ℕ × X))) (k : ℕ) (e : ℕ × X) → StandOnce slots → slot_at slots k ≡ Some e → find nat_cmp e.0 (filled (take k slots)) ≡ None
   none_before slots k e once at = none_filled (take k slots) e.0 (λ i f there same.
       let here = slot_take slots k i in
       let one = once i k f e in

@@ -7,6 +7,7 @@ mod groups;
 mod id_list;
 mod ordered;
 mod rest;
+mod slot;
 mod slotted;
 mod spill;
 mod stored;

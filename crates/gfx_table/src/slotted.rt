@@ -1,11 +1,12 @@
 //! Small rows under ids, which are found at once where the ids lie close together.
-ghost use Rattle.std.specs.Prelude.{◌≡◌, ℕ, ◌+◌, ◌<◌, ◌≤◌, ◌++◌, true, false, length, bit_and, slice_set, is_some, IsSome, IfSome, IfOk, OnOk, Some, None, map as each};
+ghost use Rattle.std.specs.Prelude.{◌≡◌, ◌≢◌, ℕ, ◌+◌, ◌<◌, ◌≤◌, ◌++◌, true, false, length, bit_and, slice_set, is_some, IsSome, IfSome, IfOk, OnOk, Some, None, map as each};
 ghost use Rattle.std.specs.Option.{option_copied, option_or};
 ghost use Rattle.std.specs.Ordering.{nat_cmp};
 ghost use Rattle.std.specs.FinMap as map;
 ghost use Rattle.gfx_table.specs.Slotted.{slot_at, row_in, filled, own_slot, StandsOwn, IsInGroup, IsNowhere, CanTake, StandOnce, AreOwn, ArePlaced};
 
 use crate::rest::Rest;
+use crate::slot::{Slot, free_slots, in_slot, is_free};
 use std::alloc::{AllocError, Global};
 use std::marker::Model;
 use std::mem;
@@ -18,7 +19,7 @@ const GROUP: usize = 8;
 /// into the table, and no ids cost more than the table does.
 #[derive(Drop)]
 pub struct Slotted<V: Copy> {
-    slots: Vec<Option<(u64, V)>>,
+    slots: Vec<Slot<V>>,
     // the bits of an id that tell where its group begins
     mask: u64,
     // how many slots are taken
@@ -43,7 +44,7 @@ impl<V: Copy> Model for Slotted<V> {
     ghost invariant = { λ t. IsSlotted t.mask t.displaced t.slots.items t.rest.map };
 }
 
-impl<V: Copy> Slotted<V> {
+impl<V: Copy + Default> Slotted<V> {
     /// No rows.
     pub fn new(alloc: Global) -> Self
         ensures { result.map ≡ map.empty }
@@ -114,8 +115,7 @@ impl<V: Copy> Slotted<V> {
         ensures { self.new ≡ self.old }
     {
         let mask = mask_over(wanted);
-        let Ok(mut wide) = Vec::from_elem(self.alloc, None, (mask as usize).saturating_add(GROUP))
-        else {
+        let Ok(mut wide) = free_slots(self.alloc, (mask as usize).saturating_add(GROUP)) else {
             return;
         };
         if let Some(displaced) = spread(&self.slots, mask, &mut wide) {
@@ -201,7 +201,7 @@ impl<V: Copy> Slotted<V> {
             return self.rest.remove(id);
         };
         let row = in_slot(&self.slots, id, slot).copied();
-        self.slots[slot] = None;
+        self.slots[slot] = Slot::free();
         self.taken = self.taken.saturating_sub(1);
         row
     }
@@ -238,8 +238,8 @@ fn displaces(displaced: bool, slot: usize, first: usize, id: u64) -> bool
 }
 
 // The slot in which the row of the id stands, among those of the group that begins here.
-fn slot_of<V: Copy>(
-    slots: &[Option<(u64, V)>],
+fn slot_of<V: Copy + Default>(
+    slots: &[Slot<V>],
     displaced: bool,
     first: usize,
     id: u64,
@@ -247,6 +247,7 @@ fn slot_of<V: Copy>(
     requires { displaced ≡ false → StandsOwn slots.now first id }
     ensures here { IfSome result (λ s. is_some (row_in (slot_at slots.now s) id) ≡ true) }
     ensures inside { IfSome result (IsInGroup first) }
+    ensures id { IsSome result → id ≢ 0 }
     ensures none { result ≡ None → IsNowhere slots.now first id }
 {
     let own = own_of(id, first);
@@ -264,30 +265,10 @@ fn slot_of<V: Copy>(
     None
 }
 
-// The row in a slot, where it is that of the id.
-fn in_slot<V: Copy>(slots: &[Option<(u64, V)>], id: u64, slot: usize) -> Option<&V>
-    ensures { option_copied result ≡ row_in (slot_at slots.now slot) id }
-{
-    match slots.get(slot) {
-        Some(held) => row_of(held, id),
-        None => None,
-    }
-}
-
-// The row of what a slot has, where it is that of the id.
-fn row_of<V: Copy>(slot: &Option<(u64, V)>, id: u64) -> Option<&V>
-    ensures { option_copied result ≡ row_in slot.now id }
-{
-    match slot {
-        Some(entry) => { if entry.0 == id { Some(&entry.1) } else { None } }
-        None => None,
-    }
-}
-
 // The slot into which a row under the id goes: the one in which it is already, or a free one of the group where the rest has
 // none.
-fn slot_for<V: Copy>(
-    slots: &[Option<(u64, V)>],
+fn slot_for<V: Copy + Default>(
+    slots: &[Slot<V>],
     displaced: bool,
     rest: &Rest<V>,
     first: usize,
@@ -295,6 +276,7 @@ fn slot_for<V: Copy>(
 ) -> Option<usize>
     requires { displaced ≡ false → StandsOwn slots.now first id }
     ensures some { IfSome result (CanTake slots.now rest.now.map first id) }
+    ensures id { IsSome result → id ≢ 0 }
     ensures none { result ≡ None → IsNowhere slots.now first id }
 {
     match slot_of(slots, displaced, first, id) {
@@ -310,11 +292,15 @@ fn slot_for<V: Copy>(
 }
 
 // A free slot of the group that begins here: that of the id, where it is free.
-fn free_in<V: Copy>(slots: &[Option<(u64, V)>], first: usize, id: u64) -> Option<usize>
+fn free_in<V: Copy + Default>(slots: &[Slot<V>], first: usize, id: u64) -> Option<usize>
     ensures group { IfSome result (IsInGroup first) }
     ensures inside { IfSome result (λ s. s < length slots.now) }
     ensures free { IfSome result (λ s. slot_at slots.now s ≡ None) }
+    ensures id { IsSome result → id ≢ 0 }
 {
+    if id == 0 {
+        return None;
+    }
     let own = own_of(id, first);
     if is_free(slots, own) {
         return Some(own);
@@ -328,21 +314,18 @@ fn free_in<V: Copy>(slots: &[Option<(u64, V)>], first: usize, id: u64) -> Option
 }
 
 // Puts an entry into a slot, and counts the slot where it was free.
-fn put<V: Copy>(slots: &mut Vec<Option<(u64, V)>>, taken: &mut usize, slot: usize, entry: (u64, V))
-    requires { slot < length slots.old.items }
+fn put<V: Copy + Default>(slots: &mut Vec<Slot<V>>, taken: &mut usize, slot: usize, entry: (u64, V))
+    requires slot { slot < length slots.old.items }
+    requires id { entry.0 ≢ 0 }
     ensures { slots.new.items ≡ slice_set slots.old.items slot (Some entry) }
 {
-    if mem::replace(&mut slots[slot], Some(entry)).is_none() {
+    if mem::replace(&mut slots[slot], Slot::new(entry.0, entry.1)).is_free() {
         *taken = taken.saturating_add(1);
     }
 }
 
 // Puts what stands in the slots into more slots, where there is one for each, and says whether an id is displaced there.
-fn spread<V: Copy>(
-    slots: &[Option<(u64, V)>],
-    mask: u64,
-    wide: &mut Vec<Option<(u64, V)>>,
-) -> Option<bool>
+fn spread<V: Copy + Default>(slots: &[Slot<V>], mask: u64, wide: &mut Vec<Slot<V>>) -> Option<bool>
     requires once { StandOnce slots.now }
     requires free { (i : ℕ) → slot_at wide.old.items i ≡ None }
     ensures placed { IfSome result (λ displaced. ArePlaced mask wide.new.items) }
@@ -351,9 +334,9 @@ fn spread<V: Copy>(
 {
     let mut displaced = false;
     'slots: for slot in slots {
-        if let Some(entry) = slot {
+        if let Some(entry) = slot.entry() {
             let first = first_of(entry.0, mask);
-            let place = spread_one(*entry, first, wide)?;
+            let place = spread_one(entry, first, wide)?;
             displaced = displaces(displaced, place, first, entry.0);
         }
     }
@@ -361,10 +344,10 @@ fn spread<V: Copy>(
 }
 
 // Puts an entry into a free slot of the group that begins here, where there is one.
-fn spread_one<V: Copy>(
+fn spread_one<V: Copy + Default>(
     entry: (u64, V),
     first: usize,
-    wide: &mut Vec<Option<(u64, V)>>,
+    wide: &mut Vec<Slot<V>>,
 ) -> Option<usize>
     ensures group { IfSome result (IsInGroup first) }
     ensures inside { IfSome result (λ s. s < length wide.old.items) }
@@ -372,24 +355,16 @@ fn spread_one<V: Copy>(
     ensures put { IfSome result (λ s. wide.new.items ≡ slice_set wide.old.items s (Some entry)) }
 {
     let slot = free_in(wide, first, entry.0)?;
-    wide[slot] = Some(entry);
+    wide[slot] = Slot::new(entry.0, entry.1);
     Some(slot)
 }
 
-// Whether there is such a slot, and nothing stands in it.
-fn is_free<V: Copy>(slots: &[Option<(u64, V)>], slot: usize) -> bool
-    ensures inside { result ≡ true → slot < length slots.now }
-    ensures free { result ≡ true → slot_at slots.now slot ≡ None }
-{
-    matches!(slots.get(slot), Some(None))
-}
-
 // Appends the ids of what stands in the slots.
-fn push_taken<V: Copy>(ids: &mut Vec<u64>, slots: &[Option<(u64, V)>]) -> Result<(), AllocError>
+fn push_taken<V: Copy + Default>(ids: &mut Vec<u64>, slots: &[Slot<V>]) -> Result<(), AllocError>
     ensures { OnOk result (ids.new.items ≡ ids.old.items ++ each (λ e. e.0) (filled slots.now)) }
 {
     'slots: for slot in slots {
-        if let Some(entry) = slot {
+        if let Some(entry) = slot.entry() {
             ids.push(entry.0)?;
         }
     }

@@ -6,7 +6,7 @@ use Rattle.gfx_table.proofs.slotted.Slotted.get_anywhere.Goals as goal
 pub returns-in-Some : goal.returns-in-Some
 returns-in-Some g c =
     let here = rw c.deref.ensures.value at c.in-Some.ensures.here in
-    (rw c.deref-in-Some.ensures.value at c.in_slot.ensures) ∙ got_there c.self.inside.mask c.self.inside.displaced c.self.inside.slots.items c.self.inside.rest.map c.self.invariant c.in-Some.slot c.args.id here
+    (rw c.deref-in-Some.ensures.value at c.in_slot.ensures.row) ∙ got_there c.self.inside.mask c.self.inside.displaced c.self.inside.slots.items c.self.inside.rest.map c.self.invariant c.in-Some.slot c.args.id here
     ∙ ap (λ s. map.get s.map c.args.id) c.self.view_is
 
 pub returns-in-None : goal.returns-in-None

@@ -1,4 +1,4 @@
-use Rattle.std.proofs.Common.{refl, ap, subst, ◌∙◌}
+use Rattle.std.proofs.Common.{slice_set, refl, ap, subst, ◌∙◌}
 use Rattle.std.specs.FinMap as map
 use Rattle.gfx_table.specs.Joined.{joined}
 use Rattle.gfx_table.specs.Slotted.{IsInGroup, filled}
@@ -28,12 +28,12 @@ pub invariant_of-self-2 : goal.invariant_of-self-2
 invariant_of-self-2 g c =
     let here = rw c.deref.ensures.value at c.in-Some.ensures.here in
     let within = subst (λ first. IsInGroup first c.in-Some.slot) c.first_of.ensures c.in-Some.ensures.inside in
-    (clear_slot c.self.inside.mask c.self.inside.displaced c.self.inside.slots.items c.self.inside.rest.map c.in-Some.slot c.args.id c.self.invariant here within).0
+    rw c.free.ensures (clear_slot c.self.inside.mask c.self.inside.displaced c.self.inside.slots.items c.self.inside.rest.map c.in-Some.slot c.args.id c.self.invariant here within).0
 
 pub returns-clause-value : goal.returns-clause-value
 returns-clause-value g c =
     let here = rw c.deref.ensures.value at c.in-Some.ensures.here in
-    c.copied-row.ensures ∙ (rw c.deref-2.ensures.value at c.in_slot.ensures)
+    c.copied-row.ensures ∙ (rw c.deref-2.ensures.value at c.in_slot.ensures.row)
     ∙ got_there c.self.inside.mask c.self.inside.displaced c.self.inside.slots.items c.self.inside.rest.map c.self.invariant c.in-Some.slot c.args.id here
     ∙ ap (λ s. map.get s.map c.args.id) c.self.view_is
 
@@ -41,5 +41,6 @@ pub returns-clause-map : goal.returns-clause-map
 returns-clause-map g c =
     let here = rw c.deref.ensures.value at c.in-Some.ensures.here in
     let within = subst (λ first. IsInGroup first c.in-Some.slot) c.first_of.ensures c.in-Some.ensures.inside in
-    (clear_slot c.self.inside.mask c.self.inside.displaced c.self.inside.slots.items c.self.inside.rest.map c.in-Some.slot c.args.id c.self.invariant here within).1
+    ap (λ o. joined (filled (slice_set c.self.inside.slots.items c.in-Some.slot o)) c.self.inside.rest.map) c.free.ensures
+    ∙ (clear_slot c.self.inside.mask c.self.inside.displaced c.self.inside.slots.items c.self.inside.rest.map c.in-Some.slot c.args.id c.self.invariant here within).1
     ∙ ap (λ s. map.remove s.map c.args.id) c.self.view_is
