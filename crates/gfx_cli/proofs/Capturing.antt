@@ -19,20 +19,12 @@ use Rattle.gfx_cli.proofs.CaptureEnds.{bad_ends, front_told, leaves_taken, not_r
 use Rattle.gfx_cli.proofs.CaptureTelling.{Told, fault_exactly, of_captures, told_of, told_at, unstopped_at, write_cause}
 use Rattle.gfx_cli.proofs.Deciding.{told_at as at_told}
 use Rattle.gfx_cli.proofs.Keeping.{untouched}
-use Rattle.gfx_cli.proofs.Telling.{IsToldBy, status_tells}
+use Rattle.gfx_cli.proofs.Telling.{IsTelling, status_tells}
 
 -- the words ask for this recording and no other
 pub record AskFor (words : List (List ℕ)) (r : Recording) : Type 0 where
   pub asked : IsAsked words r
   pub only : IsOnlyAsked words r
-
--- a fault was told by its status and its line, or no memory was found for the line, or it could not be written
-pub record IsTellingOf {N : Type 0} (fault : RecordingFault) (notes : Seen N) (result : Status) : Type 0 where
-  pub ends : IsToldBy result (status_of fault) (Appends notes.bytes_before notes.bytes_now (line_of fault)) (notes.now ≡ notes.before) (Failed notes)
-  pub front : AppendsPart notes.bytes_before notes.bytes_now (line_of fault)
-  pub no_memory : result ≡ status.WantMemory → notes.now ≡ notes.before
-  pub silent : fault ≡ why.WantMemory → result ≡ status.WantMemory
-  pub later : notes.faults_before ≤ notes.faults_now
 
 -- words that ask for no recording, and the usage line or a front of it
 pub unasked : {S K N : Type 0} (words : List (List ℕ)) (source : S) (read : Option (List ℕ)) (reads : ℕ) (sink : K) (taken : Option (List ℕ)) (writes : ℕ) (notes : Seen N) (result : Status)
@@ -91,7 +83,7 @@ recorded words r source sink notes noted faults ask kept =
 
 -- a recording that was stopped, and was told of
 pub unrecorded : {S K N : Type 0} (words : List (List ℕ)) (r : Recording) (source : Seen S) (sink : Seen K) (notes : Seen N) (fault : RecordingFault) (result : Status)
-    → AskFor words r → KeepsRecording r source sink (Err fault) → (sink.now ≡ sink.before → sink.bytes_now ≡ sink.bytes_before) → IsTellingOf fault notes result
+    → AskFor words r → KeepsRecording r source sink (Err fault) → (sink.now ≡ sink.before → sink.bytes_now ≡ sink.bytes_before) → IsTelling (status_of fault) (line_of fault) (fault ≡ why.WantMemory) notes result
     → KeepsCapture words source sink notes result
 unrecorded words r source sink notes fault result ask kept same_bytes told =
     record {

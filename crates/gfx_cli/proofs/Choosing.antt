@@ -1,10 +1,8 @@
 -- Which words begin with `capture`.
-use Rattle.std.proofs.Common.{◌≡◌, ◌≤◌, ℕ, List, [], ◌∷◌, length, map, Some, get_or, ap, sym, ◌∙◌, arith}
-use Rattle.gfx_words.specs.declared.range.FrameRange.{FrameRange}
+use Rattle.std.proofs.Common.{◌≡◌, ℕ, List, Some}
 use Rattle.gfx_words.specs.declared.recording.Recording.{Recording}
-use Rattle.gfx_words.specs.declared.command.Command.TheVariants.{Trim}
 use Rattle.gfx_words.proofs.Only.{only_recording}
-use Rattle.gfx_cli.specs.Words.{BeginsCapture, IsAsked, IsNamed}
+use Rattle.gfx_cli.specs.Words.{IsAsked}
 
 -- words ask for one recording
 pub one_asked : (words : List (List ℕ)) (r other : Recording) → IsAsked words r → IsAsked words other → other ≡ r

@@ -8,23 +8,17 @@ use Rattle.gfx_model.specs.Blocks.{minor_of}
 use Rattle.gfx_model.specs.Text.{count_lines, counts_text, line}
 use Rattle.gfx_grammar.specs.Splitting.{blocks_of}
 use Rattle.gfx_io.proofs.Appending.{appends_none, part_of, whole_part}
-use Rattle.gfx_decode.specs.declared.fault.DecodeFault.{DecodeFault}
-use Rattle.gfx_decode.specs.declared.fault.DecodeFault.TheVariants as decoder
 use Rattle.gfx_words.specs.declared.range.FrameRange.{FrameRange}
 use Rattle.gfx_words.specs.declared.command.Command.{Command}
 use Rattle.gfx_words.specs.declared.command.Command.TheVariants.{Info, Replay, Trim, Lean, Upgrade, List as Lists, Unlist as Unlists, Make, Help, Version}
 use Rattle.gfx_player.specs.declared.fault.PlayFault.{PlayFault}
 use Rattle.gfx_player.specs.declared.fault.PlayFault.TheVariants as play
-use Rattle.gfx_player.specs.Fed.{IsUnfinished}
 use Rattle.gfx_play.specs.Screens.{lines_of}
-use Rattle.gfx_play.specs.Shows.{Answers, lines_in, text_in}
-use Rattle.gfx_trim.specs.Trims as trim
+use Rattle.gfx_play.specs.Shows.{lines_in, text_in}
 use Rattle.gfx_trim.specs.Written.{written}
 use Rattle.gfx_lean.specs.Leans as lean
 use Rattle.gfx_rewrite.specs.Rewrites as rewrite
-use Rattle.gfx_upgrade.specs.Upgrades as upgrade
 use Rattle.gfx_upgrade.specs.Upgrades.{upgraded}
-use Rattle.gfx_list.specs.Lists as list
 use Rattle.gfx_list.specs.Lists.{listed}
 use Rattle.gfx_list.specs.Unlists as unlist
 use Rattle.gfx_list.specs.declared.fault.UnlistFault.{UnlistFault}
@@ -38,7 +32,7 @@ use Rattle.gfx_cli.specs.Commands.{AsksForFrames, IsGood, Leaves, Reads, ReadsCa
 use Rattle.gfx_cli.specs.Counts.{CountsAll}
 use Rattle.gfx_cli.specs.Ends.{Ends, IsCutOff, IsDone, Stops, WritesPart}
 use Rattle.gfx_cli.specs.Run.{MayStop}
-use Rattle.gfx_cli.specs.Stop.{of_decoder, of_play, of_unlist, IsUnwritten}
+use Rattle.gfx_cli.specs.Stop.{of_play, of_unlist, IsUnwritten}
 use Rattle.gfx_cli.specs.Text.{at_clean, info_text}
 
 -- ---- why a walk through a file stops

@@ -5,10 +5,6 @@ use Rattle.std.specs.Io.KnownBytes.{Appends}
 use Rattle.gfx_io.specs.Pieces.{AppendsPart}
 use Rattle.gfx_io.specs.Told.{IfTold}
 use Rattle.gfx_decode.proofs.Told.{told_if}
-use Rattle.gfx_player.specs.declared.fault.PlayFault.{PlayFault}
-use Rattle.gfx_player.specs.declared.fault.PlayFault.TheVariants as play
-use Rattle.gfx_list.specs.declared.fault.UnlistFault.{UnlistFault}
-use Rattle.gfx_list.specs.declared.fault.UnlistFault.TheVariants as unlist
 use Rattle.gfx_words.specs.declared.command.Command.{Command}
 use Rattle.gfx_words.specs.declared.command.Command.TheVariants.{Info}
 use Rattle.gfx_cli.specs.CommandPromise.{KeepsCommand, Shows}
@@ -16,10 +12,10 @@ use Rattle.gfx_cli.specs.Commands.{IsGood, Leaves, Reads, Writes}
 use Rattle.gfx_cli.specs.Ends.{Ends, Stops}
 use Rattle.gfx_cli.specs.Run.{MayStop}
 use Rattle.gfx_cli.specs.Seen.{Failed, Seen}
-use Rattle.gfx_cli.specs.Stop.{IsUnwritten, of_play, of_unlist}
+use Rattle.gfx_cli.specs.Stop.{IsUnwritten}
 use Rattle.gfx_cli.specs.declared.stop.Stop.{Stop}
 use Rattle.gfx_cli.specs.declared.stop.Stop.TheVariants as stop
-use Rattle.gfx_cli.proofs.Ending.{read_of, sink_of, text_ends, told_same, unlist_read, unlist_sink}
+use Rattle.gfx_cli.proofs.Ending.{text_ends, told_same}
 
 -- a source, a sink or notes that nobody touched
 abbrev pub untouched : {T : Type 0} → T → Option (List ℕ) → ℕ → Seen T
@@ -29,12 +25,9 @@ untouched it bytes faults = record { before = it; now = it; bytes_before = bytes
 abbrev IsLater : {S K : Type 0} → Seen S → Seen K → Type 0
 IsLater source sink = (source.faults_before ≤ source.faults_now) × (sink.faults_before ≤ sink.faults_now)
 
--- the answers with these faults
-abbrev pub walked : PlayFault → Result Unit PlayFault
-walked why = Err why
-
-abbrev pub unlisted : UnlistFault → Result Unit UnlistFault
-unlisted why = Err why
+-- the answer with a fault
+abbrev pub failed : {F : Type 0} → F → Result Unit F
+failed why = Err why
 
 -- ---- commands that read files
 
@@ -71,23 +64,15 @@ was_stopped c source sink why reads stops may read write later =
       later = later;
     }
 
--- by a fault of a walk through a file
-pub walk_stopped : {S K : Type 0} (c : Command) (source : Seen S) (sink : Seen K) (why : PlayFault) (end : Result Unit Stop) (Answer : List ℕ → List ℕ → Type 0)
-    → end ≡ Err (of_play why) → Reads c → MayStop c (of_play why) → IfTold source.bytes_before source.bytes_now Answer
-    → ((all rest : List ℕ) → Answer all rest → Stops c sink.bytes_before sink.bytes_now (of_play why) all rest)
-    → (walked why ≡ Err play.ReadFault → Failed source) → (walked why ≡ Err play.SinkFault → Failed sink) → IsLater source sink → KeepsCommand c source sink end
-walk_stopped c source sink why end Answer is reads may told stops read write later =
+-- by a fault of what does its work
+pub fault_stopped : {S K F : Type 0} (of : F → Stop) (read_fault sink_fault : F) → ((why : F) → of why ≡ stop.ReadFault → why ≡ read_fault) → ((why : F) → of why ≡ stop.WriteFault → why ≡ sink_fault)
+    → (c : Command) (source : Seen S) (sink : Seen K) (why : F) (end : Result Unit Stop) (Answer : List ℕ → List ℕ → Type 0)
+    → end ≡ Err (of why) → Reads c → MayStop c (of why) → IfTold source.bytes_before source.bytes_now Answer
+    → ((all rest : List ℕ) → Answer all rest → Stops c sink.bytes_before sink.bytes_now (of why) all rest)
+    → (failed why ≡ Err read_fault → Failed source) → (failed why ≡ Err sink_fault → Failed sink) → IsLater source sink → KeepsCommand c source sink end
+fault_stopped of read_fault sink_fault read_of sink_of c source sink why end Answer is reads may told stops read write later =
     subst (KeepsCommand c source sink) (sym is)
-    (was_stopped c source sink (of_play why) reads (told_if _ _ Answer _ told stops) may (λ e. read (ap Err (read_of why e))) (λ e. write (ap Err (sink_of why e))) later)
-
--- by a fault of a listing that is read
-pub unlist_stopped : {S K : Type 0} (c : Command) (source : Seen S) (sink : Seen K) (why : UnlistFault) (end : Result Unit Stop) (Answer : List ℕ → List ℕ → Type 0)
-    → end ≡ Err (of_unlist why) → Reads c → MayStop c (of_unlist why) → IfTold source.bytes_before source.bytes_now Answer
-    → ((all rest : List ℕ) → Answer all rest → Stops c sink.bytes_before sink.bytes_now (of_unlist why) all rest)
-    → (unlisted why ≡ Err unlist.ReadFault → Failed source) → (unlisted why ≡ Err unlist.SinkFault → Failed sink) → IsLater source sink → KeepsCommand c source sink end
-unlist_stopped c source sink why end Answer is reads may told stops read write later =
-    subst (KeepsCommand c source sink) (sym is)
-    (was_stopped c source sink (of_unlist why) reads (told_if _ _ Answer _ told stops) may (λ e. read (ap Err (unlist_read why e))) (λ e. write (ap Err (unlist_sink why e))) later)
+    (was_stopped c source sink (of why) reads (told_if _ _ Answer _ told stops) may (λ e. read (ap Err (read_of why e))) (λ e. write (ap Err (sink_of why e))) later)
 
 -- `info`, which means nothing by what it leaves
 pub info_kept : {S K : Type 0} (source : Seen S) (sink : Seen K) (end : Result Unit Stop)

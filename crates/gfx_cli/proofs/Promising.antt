@@ -9,7 +9,7 @@ use Rattle.gfx_words.specs.declared.command.Command.{Command}
 use Rattle.gfx_words.specs.declared.command.Command.TheVariants.{Trim, Lean, Upgrade, List as Lists, Unlist as Unlists}
 use Rattle.gfx_cli.specs.CommandPromise.{KeepsCommand, Shows}
 use Rattle.gfx_cli.specs.Commands.{IsBad, IsBadLine, IsGood, LacksFrame, Reads}
-use Rattle.gfx_cli.specs.Ends.{Ends, EndsAlone, IsDone, Stops}
+use Rattle.gfx_cli.specs.Ends.{Ends, EndsAlone}
 use Rattle.gfx_cli.specs.FilesPromise.{KeepsFiles}
 use Rattle.gfx_cli.specs.Run.{MayEnd, Runs, WritesFront, usage_noted, stop_noted}
 use Rattle.gfx_cli.specs.Seen.{Failed, Seen}
@@ -23,20 +23,12 @@ use Rattle.gfx_cli.specs.declared.stop.Stop.TheVariants as stop
 use Rattle.gfx_cli.proofs.Deciding.{bad_stops, good_not_bad, good_not_bad_line, good_not_lacking, good_stops, lack_stops, line_stops, told_at}
 use Rattle.gfx_cli.proofs.Ending.{front_of}
 use Rattle.gfx_cli.proofs.Keeping.{untouched}
-use Rattle.gfx_cli.proofs.Telling.{IsToldBy, bad_told, by_cause, ends_so, lack_told, listing_told, read_told, status_tells, stop_is_built, stop_status, text_wants, told_exactly}
+use Rattle.gfx_cli.proofs.Telling.{IsTelling, bad_told, by_cause, ends_so, lack_told, listing_told, read_told, status_tells, stop_is_built, stop_status, text_wants, told_exactly}
 
 -- the words name this command and no other
 pub record AreOf (words : List (List ℕ)) (c : Command) : Type 0 where
   pub named : IsNamed words c
   pub only : IsOnly words c
-
--- a stop was told by its status and its line, or no memory was found for the line, or it could not be written
-pub record IsTellingOf {N : Type 0} (why : Stop) (notes : Seen N) (result : Status) : Type 0 where
-  pub ends : IsToldBy result (status_of why) (Appends notes.bytes_before notes.bytes_now (line_of why)) (notes.now ≡ notes.before) (Failed notes)
-  pub front : AppendsPart notes.bytes_before notes.bytes_now (line_of why)
-  pub no_memory : result ≡ status.WantMemory → notes.now ≡ notes.before
-  pub silent : why ≡ stop.WantMemory → result ≡ status.WantMemory
-  pub later : notes.faults_before ≤ notes.faults_now
 
 -- the words name a command, and it ended so
 runs : {S K : Type 0} (words : List (List ℕ)) (c : Command) (source : Seen S) (sink : Seen K) (end : Result Unit Stop) → AreOf words c → KeepsCommand c source sink end
@@ -155,7 +147,7 @@ finished words c source sink notes noted faults are kept =
 
 -- a command that stopped, and was told of
 pub stopped : {S K N : Type 0} (words : List (List ℕ)) (c : Command) (source : Seen S) (sink : Seen K) (notes : Seen N) (why : Stop) (result : Status)
-    → AreOf words c → KeepsCommand c source sink (Err why) → IsTellingOf why notes result → KeepsFiles words source sink notes result
+    → AreOf words c → KeepsCommand c source sink (Err why) → IsTelling (status_of why) (line_of why) (why ≡ stop.WantMemory) notes result → KeepsFiles words source sink notes result
 stopped words c source sink notes why result are kept told =
     record {
       statuses = stop_is_built why result _ _ _ told.ends;

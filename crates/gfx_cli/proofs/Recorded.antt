@@ -12,14 +12,13 @@ use Rattle.gfx_log_law.specs.Logs.{log_file}
 use Rattle.gfx_recorder.specs.Outcomes.{IsOutcome, IsRefusedAt, IsFullAt}
 use Rattle.gfx_recorder.specs.declared.outcome.Outcome.{Outcome}
 use Rattle.gfx_recorder.specs.declared.outcome.Outcome.TheVariants as ran
-use Rattle.gfx_recording.specs.Records.{IsBadScript, IsRecorded, LeftMeans, Records, Writes}
-use Rattle.gfx_recording.specs.Writing.{IsOrdered, MeansHistory, TookThen, WritesAsked}
+use Rattle.gfx_recording.specs.Records.{IsRecorded, LeftMeans, Records, Writes}
+use Rattle.gfx_recording.specs.Writing.{MeansHistory, TookThen, WritesAsked}
 use Rattle.gfx_recording.specs.declared.fault.RecordingFault.{RecordingFault}
 use Rattle.gfx_recording.specs.declared.fault.RecordingFault.TheVariants.{BadScript, CallRefused, LogFull, NoSuchFrame, ReadFault, SinkFault, WantMemory}
 use Rattle.gfx_trim.specs.Trims.{IsWithout}
 use Rattle.gfx_words.specs.declared.range.FrameRange.{FrameRange}
 use Rattle.gfx_words.specs.declared.recording.Recording.{Recording}
-use Rattle.gfx_words.specs.Commands.{FitsFrames}
 use Rattle.gfx_cli.specs.Captures.{Ends, IsRun, IsWhole, Lacks, Took, TookFront, written_of}
 use Rattle.gfx_cli.specs.Commands.{asked_by}
 

@@ -1,5 +1,7 @@
 -- What a status tells of the stop behind it.
-use Rattle.std.proofs.Common.{◌≡◌, ◌≢◌, ◌⊎◌, inl, inr, ℕ, List, refl, sym, subst, ◌∙◌}
+use Rattle.std.proofs.Common.{◌≡◌, ◌≢◌, ◌≤◌, ◌⊎◌, inl, inr, ℕ, List, refl, sym, subst, ◌∙◌}
+use Rattle.std.specs.Io.KnownBytes.{Appends}
+use Rattle.gfx_io.specs.Pieces.{AppendsPart}
 use Rattle.gfx_types.specs.declared.names.Fault.{Fault}
 use Rattle.gfx_words.specs.declared.command.Command.{Command}
 use Rattle.gfx_cli.specs.declared.status.Status.{Status}
@@ -7,6 +9,7 @@ use Rattle.gfx_cli.specs.declared.status.Status.TheVariants as status
 use Rattle.gfx_cli.specs.declared.stop.Stop.{Stop}
 use Rattle.gfx_cli.specs.declared.stop.Stop.TheVariants.{WantMemory, BadFile, NoSuchFrame, ReadFault, WriteFault, BadListing}
 use Rattle.gfx_cli.specs.Run.{IsOfCommands, MayEnd, MayStop}
+use Rattle.gfx_cli.specs.Seen.{Failed, Seen}
 use Rattle.gfx_cli.specs.Stop.{status_of, line_of, IsUnwritten}
 use Rattle.gfx_model.specs.Text.{bad_line}
 use Rattle.gfx_cli.specs.Text.{bad_listing_line, no_such_frame_line, read_fault_line}
@@ -14,6 +17,14 @@ use Rattle.gfx_cli.specs.Text.{bad_listing_line, no_such_frame_line, read_fault_
 -- a stop was told, or memory was wanting, or the write failed
 abbrev pub IsToldBy : Status → Status → Type 0 → Type 0 → Type 0 → Type 0
 IsToldBy result wanted line same failed = ((result ≡ wanted) × line) ⊎ (((result ≡ status.WantMemory) × same) ⊎ ((result ≡ status.WriteFault) × failed))
+
+-- a stop was told by its status and its line, or no memory was found for the line, or it could not be written
+pub record IsTelling {N : Type 0} (wanted : Status) (line : List ℕ) (lacks : Type 0) (notes : Seen N) (result : Status) : Type 0 where
+  pub ends : IsToldBy result wanted (Appends notes.bytes_before notes.bytes_now line) (notes.now ≡ notes.before) (Failed notes)
+  pub front : AppendsPart notes.bytes_before notes.bytes_now line
+  pub no_memory : result ≡ status.WantMemory → notes.now ≡ notes.before
+  pub silent : lacks → result ≡ status.WantMemory
+  pub later : notes.faults_before ≤ notes.faults_now
 
 -- a status of its own comes from the stop
 pub status_tells : (result wanted found : Status) (line same failed : Type 0) → IsToldBy result wanted line same failed → result ≡ found

@@ -1,16 +1,19 @@
 use Rattle.std.proofs.Common.{inl, Ok, Err, refl, sym, ap, subst, ◌∙◌}
 use Rattle.std.proofs.lemmas.Result.{err_from_is_err_and}
 use Rattle.gfx_decode.proofs.Told.{told_if}
-use Rattle.gfx_words.specs.declared.command.Command.TheVariants.{Info, Lean, Unlist as Unlists, Make, Help, Version}
+use Rattle.gfx_words.specs.declared.command.Command.TheVariants.{Lean, Unlist as Unlists, Make, Help, Version}
+use Rattle.gfx_player.specs.declared.fault.PlayFault.TheVariants as play
 use Rattle.gfx_lean.specs.Leans as lean
 use Rattle.gfx_list.specs.Unlists as unlist
+use Rattle.gfx_list.specs.declared.fault.UnlistFault.TheVariants as fault
 use Rattle.gfx_trial.specs.Text.{trial_text}
 use Rattle.gfx_cli.specs.CommandPromise.{KeepsCommand}
 use Rattle.gfx_cli.specs.Ends.{Ends}
 use Rattle.gfx_cli.specs.Seen.{seen}
+use Rattle.gfx_cli.specs.Stop.{of_play, of_unlist}
 use Rattle.gfx_cli.specs.Text.{help_text, version_line}
-use Rattle.gfx_cli.proofs.Ending.{lean_fails, unlist_done, unlist_fails, unlist_may, walk_may}
-use Rattle.gfx_cli.proofs.Keeping.{IsText, did, info_kept, text_kept, unlist_stopped, walk_stopped}
+use Rattle.gfx_cli.proofs.Ending.{lean_fails, read_of, sink_of, unlist_done, unlist_fails, unlist_may, unlist_read, unlist_sink, walk_may}
+use Rattle.gfx_cli.proofs.Keeping.{IsText, did, fault_stopped, info_kept, text_kept}
 use Rattle.gfx_cli.proofs.commands.run_command.Goals as goal
 
 pub returns-in-Info : goal.returns-in-Info
@@ -30,7 +33,7 @@ returns-in_err-lean-in-Lean g c =
     let after = g.K.Sink.taken c.lean.new.sink in
     let p = err_from_is_err_and c.from_residual-in_err-lean-in-Lean.result c.from_residual-in_err-lean-in-Lean.ensures.1 in
     subst (λ k. KeepsCommand k source sink c.from_residual-in_err-lean-in-Lean.result) (sym c.in-Lean.is)
-    (walk_stopped (Lean r) source sink why _ (lean.Answers r.first r.last before after (Err why)) (p.1 ∙ ap Err p.2) tt (walk_may (Lean r) why tt tt (inl tt)) c.in_err-lean-in-Lean.ensures.told
+    (fault_stopped of_play play.ReadFault play.SinkFault read_of sink_of (Lean r) source sink why _ (lean.Answers r.first r.last before after (Err why)) (p.1 ∙ ap Err p.2) tt (walk_may (Lean r) why tt tt (inl tt)) c.in_err-lean-in-Lean.ensures.told
     (λ all rest told. lean_fails why r before after all rest told) c.in_err-lean-in-Lean.ensures.read_fault c.in_err-lean-in-Lean.ensures.sink_fault c.in_err-lean-in-Lean.ensures.later)
 
 pub returns-in_err-unlist-in-Unlist : goal.returns-in_err-unlist-in-Unlist
@@ -42,7 +45,7 @@ returns-in_err-unlist-in-Unlist g c =
     let after = g.K.Sink.taken c.unlist.new.sink in
     let p = err_from_is_err_and c.from_residual-in_err-unlist-in-Unlist.result c.from_residual-in_err-unlist-in-Unlist.ensures.1 in
     subst (λ k. KeepsCommand k source sink c.from_residual-in_err-unlist-in-Unlist.result) (sym c.in-Unlist.is)
-    (unlist_stopped Unlists source sink why _ (unlist.Unlists before after (Err why)) (p.1 ∙ ap Err p.2) tt (unlist_may why) c.in_err-unlist-in-Unlist.ensures.told
+    (fault_stopped of_unlist fault.ReadFault fault.SinkFault unlist_read unlist_sink Unlists source sink why _ (unlist.Unlists before after (Err why)) (p.1 ∙ ap Err p.2) tt (unlist_may why) c.in_err-unlist-in-Unlist.ensures.told
     (λ all rest told. unlist_fails why before after all rest told) c.in_err-unlist-in-Unlist.ensures.read_fault c.in_err-unlist-in-Unlist.ensures.sink_fault c.in_err-unlist-in-Unlist.ensures.later)
 
 pub returns-in_ok-unlist-in-Unlist : goal.returns-in_ok-unlist-in-Unlist

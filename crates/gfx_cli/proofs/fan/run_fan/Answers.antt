@@ -1,5 +1,5 @@
-use Rattle.std.proofs.Common.{[], ◌∷◌, ◌≢◌}
-use Rattle.std.specs.Prelude.{codes, map, string_bytes, false, None}
+use Rattle.std.proofs.Common.{[], ◌∷◌}
+use Rattle.std.specs.Prelude.{codes, false, None}
 use Rattle.gfx_words.specs.declared.command.Command.TheVariants.{Replay}
 use Rattle.gfx_cli.proofs.Fanning.{replay_words}
 use Rattle.gfx_cli.proofs.Promising.{finished, stopped}
