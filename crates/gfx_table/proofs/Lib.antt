@@ -7,6 +7,7 @@ mod Placing
 mod Grouping
 mod Places
 mod Slotting
+mod Counting
 mod Spreading
 pub mod Sorting
 mod Storing

@@ -249,7 +249,8 @@ module _ {X : Type 0} where
       let missing = looked_nowhere mask slots first id is.placed at none in
       (record { placed = is.placed; own = is.own; apart = apart_insert_list (filled slots) _ m id row is.apart refl missing }, insert_in_list (filled slots) _ m id row refl missing)
 
-  inside : (slots : List (Option (ℕ × X))) (s id : ℕ) → is_some (row_in (slot_at slots s) id) ≡ true → s < length slots
+  -- a row stands in one of the slots
+  pub inside : (slots : List (Option (ℕ × X))) (s id : ℕ) → is_some (row_in (slot_at slots s) id) ≡ true → s < length slots
   inside [] s id has = cc
   inside (x ∷ slots) zero id has = omega arith
   inside (x ∷ slots) (suc s) id has = let lt = inside slots s id has in omega (arith, lt)
@@ -331,7 +332,8 @@ module _ {X : Type 0} where
       → find nat_cmp q (filled (take (k + 1) slots)) ≡ option_or (find nat_cmp q (filled (take k slots))) (row_in o q)
   found_after slots k q o lt is = found_next slots k q lt ∙ ap (λ o. option_or (find nat_cmp q (filled (take k slots))) (row_in o q)) (get_or_default slots k None o lt ∙ sym is)
 
-  slot_after : (slots : List (Option (ℕ × X))) (k : ℕ) (o : Option (ℕ × X)) → k < length slots → o ≡ slice_index_or slots k o
+  -- what stands in the slots up to one more
+  pub slot_after : (slots : List (Option (ℕ × X))) (k : ℕ) (o : Option (ℕ × X)) → k < length slots → o ≡ slice_index_or slots k o
       → filled (take (k + 1) slots) ≡ filled (take k slots) ++ filled (o ∷ [])
   slot_after slots k o lt is = filled_next slots k lt ∙ ap (λ o. filled (take k slots) ++ filled (o ∷ [])) (get_or_default slots k None o lt ∙ sym is)
 

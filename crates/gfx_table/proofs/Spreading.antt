@@ -11,6 +11,7 @@ use Rattle.std.specs.FinMap.{FinMap, find}
 use Rattle.gfx_table.specs.Joined.{joined}
 use Rattle.gfx_table.specs.Slotted.{slot_at, row_in, filled, own_slot, IsInGroup, StandOnce, AreOwn, ArePlaced, IsSlotted}
 use Rattle.gfx_table.proofs.Joining.{lookup_find, get-joined, same_keys, option_or-None}
+use Rattle.gfx_table.proofs.Counting.{held, count_after, count_free, count_set}
 use Rattle.gfx_table.proofs.Slotting.{none_filled, StandsAt, IsOf, placed_set, changed, own_set, found_after}
 
 module _ {X : Type 0} where
@@ -87,6 +88,7 @@ module _ {X : Type 0} where
     pub placed : ArePlaced mask wide
     pub own : displaced ≡ false → AreOwn mask wide
     pub same : (q : ℕ) → find nat_cmp q (filled wide) ≡ find nat_cmp q (filled (take k slots))
+    pub count : length (filled wide) ≡ length (filled (take k slots))
 
   pub spread_start : (mask : ℕ) (d : Bool) (slots wide : List (Option (ℕ × X))) → ((i : ℕ) → slot_at wide i ≡ None) → IsSpread mask d slots wide 0
   spread_start mask d slots wide empty =
@@ -95,6 +97,7 @@ module _ {X : Type 0} where
         placed = none.0;
         own = λ not i e at. let gone = empty i in absurd (grind (arith, gone, at));
         same = none.1;
+        count = count_free wide empty;
       }
 
   pub spread_past : (mask : ℕ) (d : Bool) (slots wide : List (Option (ℕ × X))) (k : ℕ) → k < length slots → None ≡ slice_index_or slots k None → IsSpread mask d slots wide k → IsSpread mask d slots wide (k + 1)
@@ -102,6 +105,7 @@ module _ {X : Type 0} where
     placed = was.placed;
     own = was.own;
     same = λ q. was.same q ∙ sym (option_or-None _) ∙ sym (found_after slots k q None lt is);
+    count = let next = count_after slots k None lt is in let had = was.count in omega (arith, next, had);
   }
 
   pub spread_more : (mask : ℕ) (d n : Bool) (slots wide new : List (Option (ℕ × X))) (k first place : ℕ) (entry : ℕ × X) → StandOnce slots → k < length slots → Some entry ≡ slice_index_or slots k (Some entry)
@@ -115,6 +119,12 @@ module _ {X : Type 0} where
         placed = both.0;
         own = λ not. let own = still not in own_set mask wide place entry.0 entry.1 (was.own own.0) inside (own.1 ∙ ap (λ f. own_slot f entry.0) at);
         same = λ q. both.1 q ∙ ap (λ o. option_or o (row_in (Some entry) q)) (was.same q) ∙ sym (found_after slots k q (Some entry) lt is);
+        count =
+            let next = count_after slots k (Some entry) lt is in
+            let new = count_set wide place (Some entry) inside in
+            let free = ap held free in
+            let had = was.count in
+            omega (arith, next, new, free, had);
       })
 
   -- the same entries in other slots

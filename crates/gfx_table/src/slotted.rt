@@ -31,6 +31,7 @@ pub struct Slotted<V: Copy> {
 }
 
 impl<V: Copy> Model for Slotted<V> {
+    ghost use Rattle.std.specs.Prelude.{◌≡◌, length};
     ghost use Rattle.gfx_table.specs.Slots.{Slots, slots_code};
     ghost use Rattle.gfx_table.specs.Joined.{joined};
     ghost use Rattle.gfx_table.specs.Slotted.{filled, IsSlotted};
@@ -41,7 +42,7 @@ impl<V: Copy> Model for Slotted<V> {
 
     ghost view = { λ t. record { map = joined (filled t.slots.items) t.rest.map; spare = t.rest.spare } };
 
-    ghost invariant = { λ t. IsSlotted t.mask t.displaced t.slots.items t.rest.map };
+    ghost invariant = { λ t. IsSlotted t.mask t.displaced t.slots.items t.rest.map × (t.taken ≡ length (filled t.slots.items)) };
 }
 
 impl<V: Copy + Default> Slotted<V> {
@@ -317,7 +318,8 @@ fn free_in<V: Copy + Default>(slots: &[Slot<V>], first: usize, id: u64) -> Optio
 fn put<V: Copy + Default>(slots: &mut Vec<Slot<V>>, taken: &mut usize, slot: usize, entry: (u64, V))
     requires slot { slot < length slots.old.items }
     requires id { entry.0 ≢ 0 }
-    ensures { slots.new.items ≡ slice_set slots.old.items slot (Some entry) }
+    ensures slots { slots.new.items ≡ slice_set slots.old.items slot (Some entry) }
+    ensures taken { taken.old ≡ length (filled slots.old.items) → taken.new ≡ length (filled slots.new.items) }
 {
     if mem::replace(&mut slots[slot], Slot::new(entry.0, entry.1)).is_free() {
         *taken = taken.saturating_add(1);
@@ -331,6 +333,7 @@ fn spread<V: Copy + Default>(slots: &[Slot<V>], mask: u64, wide: &mut Vec<Slot<V
     ensures placed { IfSome result (λ displaced. ArePlaced mask wide.new.items) }
     ensures own { IfSome result (λ displaced. displaced ≡ false → AreOwn mask wide.new.items) }
     ensures same { IfSome result (λ displaced. (q : ℕ) → map.find nat_cmp q (filled wide.new.items) ≡ map.find nat_cmp q (filled slots.now)) }
+    ensures count { IfSome result (λ displaced. length (filled wide.new.items) ≡ length (filled slots.now)) }
 {
     let mut displaced = false;
     'slots: for slot in slots {

@@ -6,5 +6,5 @@ use Rattle.gfx_table.proofs.slotted.Slotted.get.Goals as goal
 pub returns-in-Some : goal.returns-in-Some
 returns-in-Some g c =
     let here = rw c.deref.ensures.value at c.in-Some.ensures.row in
-    here ∙ got_there c.self.inside.mask c.self.inside.displaced c.self.inside.slots.items c.self.inside.rest.map c.self.invariant c.own_of-own.result c.args.id (ap is_some (sym here))
+    here ∙ got_there c.self.inside.mask c.self.inside.displaced c.self.inside.slots.items c.self.inside.rest.map c.self.invariant.0 c.own_of-own.result c.args.id (ap is_some (sym here))
     ∙ ap (λ s. map.get s.map c.args.id) c.self.view_is

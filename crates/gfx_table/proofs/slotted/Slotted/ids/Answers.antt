@@ -8,6 +8,6 @@ returns g c =
     let slots = c.self.inside.slots.items in
     let rest = c.self.inside.rest.map in
     let taken = rw (c.new-ids.ensures.items, c.deref.ensures.value) at c.in_ok-push_taken.ensures in
-    slotted_ids c.self.inside.mask c.self.inside.displaced slots rest c.self.invariant c.push_ids.new.ids.items c.sort_unstable.new.self.items (c.in_ok-push_ids.ensures ∙ ap (λ l. l ++ map.keys rest) taken)
+    slotted_ids c.self.inside.mask c.self.inside.displaced slots rest c.self.invariant.0 c.push_ids.new.ids.items c.sort_unstable.new.self.items (c.in_ok-push_ids.ensures ∙ ap (λ l. l ++ map.keys rest) taken)
     c.sort_unstable.ensures.permutation c.sort_unstable.ensures.sorted
     ∙ ap (λ s. map.keys s.map) c.self.view_is
