@@ -189,6 +189,14 @@ module _ {X : Type 0} where
       → map.get m id ≡ map.get (joined (filled slots) m) id
   got_rest mask d slots m is first id at none = got (filled slots) m id None (sym (looked_nowhere mask slots first id is.placed at none))
 
+  -- no slot has anything
+  pub got_beside : (slots : List (Option (ℕ × X))) (m : FinMap nat_cmp X) (id : ℕ) → length (filled slots) ≡ 0 → map.get m id ≡ map.get (joined (filled slots) m) id
+  got_beside slots m id none = got (filled slots) m id None (by (filled slots) none)
+    where
+      by : (es : List (ℕ × X)) → length es ≡ 0 → None ≡ lookup (is_at (nat_cmp id)) es
+      by [] e = refl
+      by (x ∷ es) e = absurd (omega (arith, e))
+
   missing_there : (mask : ℕ) (d : Bool) (slots : List (Option (ℕ × X))) (m : FinMap nat_cmp X) → IsSlotted mask d slots m → (s id : ℕ) → is_some (row_in (slot_at slots s) id) ≡ true → map.get m id ≡ None
   missing_there mask d slots m is s id has =
       let d = entry (slot_at slots s) id has in

@@ -130,6 +130,10 @@ impl<V: Copy + Default> Slotted<V> {
     pub fn get(&self, id: u64) -> Option<&V>
         ensures { option_copied result ≡ map.get self.now.map id }
     {
+        // A look at free slots alone would be at a place of memory that no cache has.
+        if self.taken == 0 {
+            return self.rest.get(id);
+        }
         let own = own_of(id, first_of(id, self.mask));
         match in_slot(&self.slots, id, own) {
             Some(row) => Some(row),
