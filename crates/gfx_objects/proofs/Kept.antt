@@ -13,7 +13,7 @@ use Rattle.gfx_model.specs.Limits.{max_live_bytes, max_live_objects}
 use Rattle.gfx_objects.specs.declared.object.Object.{Object}
 use Rattle.gfx_objects.specs.Object.{detail_of, bound_of, is_within}
 use Rattle.gfx_objects.specs.Inside.{IsNoted}
-use Rattle.gfx_objects.specs.Objects.{Kept, IsRow, RestsIn, IsSound, IsIndexed, children_in, bytes_in}
+use Rattle.gfx_objects.specs.Objects.{Kept, was_used, IsRow, RestsIn, IsSound, IsIndexed, children_in, bytes_in}
 use Rattle.gfx_objects.proofs.Index.{total_created, len_created, total_removed, len_removed, total_changed, len_changed, at_insert, at_remove}
 
 -- where no device is at hand, none is told
@@ -21,25 +21,39 @@ pub none_noted : (k : Kept) → IsNoted None k
 none_noted k n is = absurd (grind (arith, is))
 
 -- a row that isn't used isn't live
-pub unused_fresh : (k : Kept) → IsSound k → (id : ℕ) → holds k.used id ≡ false → map.get k.rows id ≡ None
-unused_fresh k sound id unused = cases (map.get k.rows id) refl
+pub unused_fresh : (k : Kept) (id : ℕ) → was_used k id ≡ false → map.get k.rows id ≡ None
+unused_fresh k id unused = cases (map.get k.rows id) refl
   where
     cases : (o : Option Object) → map.get k.rows id ≡ o → o ≡ None
     cases None e = refl
-    cases (Some o) e = let h = sound.used id (ap is_some e) in absurd (grind (arith, h))
+    cases (Some o) e = let live = ap is_some e in absurd (grind (arith, live, unused))
+
+-- the same rows and ended ids
+pub used_same : (k n : Kept) → n.rows ≡ k.rows → holds n.ended ≡ holds k.ended → was_used n ≡ was_used k
+used_same k n rows ended = λ i id. (ap (λ m. is_some (map.get m id) || holds n.ended id) rows ∙ ap (λ f. is_some (map.get k.rows id) || f id) ended) i
+
+-- a live object ended
+pub used_removed : (k n : Kept) (id : ℕ) (o : Object) → n.rows ≡ map.remove k.rows id → map.get k.rows id ≡ Some o → holds n.ended ≡ (λ other. id == other || holds k.ended other) → was_used n ≡ was_used k
+used_removed k n id o rows some ended = λ i other. (each other) i
+  where
+    each : (other : ℕ) → was_used n other ≡ was_used k other
+    each other =
+        let at = ap (λ m. map.get m other) rows ∙ at_remove k.rows id other in
+        let now = ap (λ f. f other) ended in
+        let here : id ≡ other → map.get k.rows other ≡ Some o = λ p. rw (sym p) some in
+        grind (arith, nat_tests, at, now, here)
 
 -- ---- the same rows
 
-pub sound_same : (k n : Kept) → n.rows ≡ k.rows → holds n.used ≡ holds k.used → IsSound k → IsSound n
-sound_same k n rows used sound = record {
+pub sound_same : (k n : Kept) → n.rows ≡ k.rows → holds n.ended ≡ holds k.ended → IsSound k → IsSound n
+sound_same k n rows ended sound = record {
   row = λ id o some. sound.row id o (ap (λ m. map.get m id) (sym rows) ∙ some);
   bound = λ id o b some is.
       let old = sound.bound id o b (ap (λ m. map.get m id) (sym rows) ∙ some) is in
       record {
-        used = ap (λ f. f b.memory) used ∙ old.used;
+        used = ap (λ f. f b.memory) (used_same k n rows ended) ∙ old.used;
         inside = λ m live. old.inside m (ap (λ q. map.get q b.memory) (sym rows) ∙ live);
       };
-  used = λ id some. ap (λ f. f id) used ∙ sound.used id (ap (λ m. is_some (map.get m id)) (sym rows) ∙ some);
   few = let a = ap map.len rows in let b = sound.few in omega (arith, a, b);
   small = let a = ap bytes_in rows in let b = sound.small in omega (arith, a, b);
 }
@@ -68,7 +82,7 @@ module _ (k n : Kept) (id : ℕ) (o : Object) (rows : n.rows ≡ map.insert k.ro
   now_at x r some = sym (ap (λ m. map.get m x) rows ∙ at_insert k.rows id o x) ∙ some
 
   -- a row rests where it rested, and the new one too, where all that is live under this id has these bytes
-  bound_at : holds n.used ≡ (λ other. id == other || holds k.used other)
+  bound_at : was_used n ≡ (λ other. id == other || was_used k other)
       → ((b : Binding) (d : Detail) → RestsIn k d b → id ≡ b.memory → b.offset + detail_size d ≤ detail_size (detail_of o.detail))
       → ((b : Binding) → bound_of o.detail ≡ Some b → RestsIn k (detail_of o.detail) b)
       → ((x : ℕ) (r : Object) (b : Binding) → map.get k.rows x ≡ Some r → bound_of r.detail ≡ Some b → RestsIn k (detail_of r.detail) b)
@@ -92,40 +106,39 @@ module _ (k n : Kept) (id : ℕ) (o : Object) (rows : n.rows ≡ map.insert k.ro
               subst (λ q. b.offset + detail_size (detail_of r.detail) ≤ detail_size (detail_of q.detail)) (same_Some o m now) (here b (detail_of r.detail) rests same)
           inside m false e now = rests.inside m now
 
-  pub sound_created : holds k.used id ≡ false → holds n.used ≡ (λ other. id == other || holds k.used other) → IsRow id o → bound_of o.detail ≡ None
+  -- the id of the row is used now
+  pub used_inserted : n.ended ≡ k.ended → was_used n ≡ (λ other. id == other || was_used k other)
+  used_inserted ended = λ i other. (each other) i
+    where
+      each : (other : ℕ) → was_used n other ≡ (id == other || was_used k other)
+      each other =
+          let at = ap (λ m. map.get m other) rows ∙ at_insert k.rows id o other in
+          let same = ap (λ s. holds s other) ended in
+          grind (arith, nat_tests, at, same)
+
+  pub sound_created : was_used k id ≡ false → n.ended ≡ k.ended → IsRow id o → bound_of o.detail ≡ None
       → map.len k.rows < max_live_objects → bytes_in k.rows + detail_bytes (detail_of o.detail) ≤ max_live_bytes → IsSound k → IsSound n
-  sound_created unused used is unbound few small sound = record {
+  sound_created unused ended is unbound few small sound = record {
     row = λ x r some. row_at x r is sound.row some;
     bound =
-        bound_at used
-        (λ b d rests same. let was = rests.used in let at = ap (holds k.used) same in absurd (grind (arith, unused, was, at)))
+        bound_at (used_inserted ended)
+        (λ b d rests same. let was = rests.used in let at = ap (was_used k) same in absurd (grind (arith, unused, was, at)))
         (λ b some. absurd (grind (arith, unbound, some)))
         sound.bound;
-    used = λ x some.
-        let u = ap (λ f. f x) used in
-        let at = ap (λ m. map.get m x) rows ∙ at_insert k.rows id o x in
-        let old = sound.used x in
-        grind (arith, nat_tests, u, at, old, some);
-    few = let a = ap map.len rows in let b = len_created k.rows id o (unused_fresh k sound id unused) in omega (arith, a, b, few);
-    small = let a = ap bytes_in rows in let b = total_created k.rows id o (unused_fresh k sound id unused) (λ id o. detail_bytes (detail_of o.detail)) in omega (arith, a, b, small);
+    few = let a = ap map.len rows in let b = len_created k.rows id o (unused_fresh k id unused) in omega (arith, a, b, few);
+    small = let a = ap bytes_in rows in let b = total_created k.rows id o (unused_fresh k id unused) (λ id o. detail_bytes (detail_of o.detail)) in omega (arith, a, b, small);
   }
 
-  pub sound_changed : (before : Object) → map.get k.rows id ≡ Some before → n.used ≡ k.used → o.id ≡ before.id → o.kind ≡ before.kind → detail_of o.detail ≡ detail_of before.detail
+  pub sound_changed : (before : Object) → map.get k.rows id ≡ Some before → n.ended ≡ k.ended → o.id ≡ before.id → o.kind ≡ before.kind → detail_of o.detail ≡ detail_of before.detail
       → ((b : Binding) → bound_of o.detail ≡ Some b → RestsIn k (detail_of o.detail) b) → IsSound k → IsSound n
-  sound_changed before some used same_id same_kind parameters rests sound = record {
+  sound_changed before some ended same_id same_kind parameters rests sound = record {
     row = λ x r some. row_at x r is sound.row some;
     bound =
-        bound_at (λ i other. (still other) i)
+        bound_at (used_inserted ended)
         (λ b d rests same.
         let at : map.get k.rows b.memory ≡ Some before = rw (sym same) some in
         subst (λ p. b.offset + detail_size d ≤ detail_size p) (sym parameters) (rests.inside before at))
         rests sound.bound;
-    used = λ x live.
-        let u = ap (λ s. holds s x) used in
-        let at = ap (λ m. map.get m x) rows ∙ at_insert k.rows id o x in
-        let old = sound.used x in
-        let here : id ≡ x → map.get k.rows x ≡ Some before = λ p. rw (sym p) some in
-        grind (arith, nat_tests, u, at, old, live, here);
     few = let a = ap map.len rows in let b = len_changed k.rows id before some o in let c = sound.few in omega (arith, a, b, c);
     small =
         let a = ap bytes_in rows in
@@ -141,14 +154,6 @@ module _ (k n : Kept) (id : ℕ) (o : Object) (rows : n.rows ≡ map.insert k.ro
         same_kind = same_kind ∙ old.same_kind ∙ ap kind_of (sym parameters);
         within = ap is_within parameters ∙ old.within;
       }
-
-      -- the id was used before
-      still : (other : ℕ) → holds n.used other ≡ (id == other || holds k.used other)
-      still other =
-          let u = ap (λ s. holds s other) used in
-          let was = sound.used id (ap is_some some) in
-          let here : id ≡ other → holds k.used other ≡ true = λ p. rw (sym p) was in
-          grind (arith, nat_tests, u, here)
 
 module _ (m n : FinMap nat_cmp Object) (children children' : ℕ → ℕ) (bytes bytes' count count' : ℕ) (id : ℕ) (o : Object) where
   pub indexed_created : n ≡ map.insert m id o → map.get m id ≡ None
@@ -206,7 +211,7 @@ indexed_changed m n children bytes count id o changed rows some parent same old 
   in_number = old.in_number ∙ sym (len_changed m id o some changed) ∙ ap map.len (sym rows);
 }
 
-pub sound_removed : (k n : Kept) (id : ℕ) (o : Object) → n.rows ≡ map.remove k.rows id → map.get k.rows id ≡ Some o → n.used ≡ k.used → IsSound k → IsSound n
+pub sound_removed : (k n : Kept) (id : ℕ) (o : Object) → n.rows ≡ map.remove k.rows id → map.get k.rows id ≡ Some o → was_used n ≡ was_used k → IsSound k → IsSound n
 sound_removed k n id o rows some used sound = record {
   row = λ x r now.
       let at = ap (λ m. map.get m x) rows ∙ at_remove k.rows id x in
@@ -215,14 +220,9 @@ sound_removed k n id o rows some used sound = record {
       let at = ap (λ m. map.get m x) rows ∙ at_remove k.rows id x in
       let old = sound.bound x r b (grind (arith, nat_tests, at, now)) is in
       record {
-        used = ap (λ s. holds s b.memory) used ∙ old.used;
+        used = ap (λ f. f b.memory) used ∙ old.used;
         inside = λ m live. let here = ap (λ m. map.get m b.memory) rows ∙ at_remove k.rows id b.memory in old.inside m (grind (arith, nat_tests, here, live));
       };
-  used = λ x live.
-      let u = ap (λ s. holds s x) used in
-      let at = ap (λ m. map.get m x) rows ∙ at_remove k.rows id x in
-      let old = sound.used x in
-      grind (arith, nat_tests, u, at, old, live);
   few = let a = ap map.len rows in let b = len_removed k.rows id o some in let c = sound.few in omega (arith, a, b, c);
   small =
       let a = ap bytes_in rows in

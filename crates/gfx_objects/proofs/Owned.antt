@@ -108,6 +108,6 @@ owned_anew s owned same kept = record {
   indexed = kept.indexed;
   grouped = grouped_same s.rows.map s.rows.map (is_member s.owned.sets.map) (is_member owned.sets.map) (is_member s.resting.sets.map) (is_member s.resting.sets.map)
       (count_of s.swapchains.counts.map) (count_of s.swapchains.counts.map) refl same refl refl kept.grouped;
-  has_room = record { rows = kept.has_room.rows; used = kept.has_room.used; children = kept.has_room.children; swapchains = kept.has_room.swapchains };
+  has_room = record { rows = kept.has_room.rows; ended = kept.has_room.ended; children = kept.has_room.children; swapchains = kept.has_room.swapchains };
   noted = kept.noted;
 }

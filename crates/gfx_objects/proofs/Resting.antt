@@ -44,7 +44,7 @@ module _ (k : Kept) (sound : IsSound k) (id : ℕ) (o : Object) (some : map.get 
       → (b : Binding) → bound_of d ≡ Some b → RestsIn k (detail_of d) b
   new_rests memory offset live ends d parameters is b now =
       subst (λ b. RestsIn k (detail_of d) b) (same_Some _ _ (sym is ∙ now)) (record {
-        used = let row = memory_row k memory live in sound.used memory (ap is_some row.1);
+        used = let row = memory_row k memory live in let live = ap is_some row.1 in grind (arith, live);
         inside = λ m there.
             let whole = size_at k memory m there in
             let part = size_at k id o some in

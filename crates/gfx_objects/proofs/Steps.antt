@@ -19,7 +19,8 @@ use Rattle.gfx_objects.specs.declared.object.Object.{Object}
 use Rattle.gfx_objects.specs.declared.object.Detail.{Detail}
 use Rattle.gfx_objects.specs.declared.object.Detail.TheVariants as declared
 use Rattle.gfx_objects.specs.Object.{made, detail_of, bound_of, mapped_of, layout_of, IsNew}
-use Rattle.gfx_objects.specs.Objects.{Kept, answers}
+use Rattle.gfx_objects.specs.Objects.{Kept, answers, was_used}
+use Rattle.gfx_objects.proofs.Kept.{used_same}
 
 view_ext : (v w : View) → ((x : ℕ) → v.live x ≡ w.live x) → v.ids ≡ w.ids → ((x : ℕ) → v.used x ≡ w.used x)
     → ((x : ℕ) → v.bound x ≡ w.bound x) → ((x : ℕ) → v.mapped x ≡ w.mapped x) → ((x : ℕ) → v.layout x ≡ w.layout x)
@@ -53,7 +54,7 @@ at_insert m n id o is q = ap (λ m. map.get m q) is ∙ ap (λ f. f q) (got-inse
 
 -- ---- a new object
 
-module _ (k n : Kept) (id : ℕ) (o : Object) (rows : n.rows ≡ map.insert k.rows id o) (used : holds n.used ≡ (λ other. id == other || holds k.used other))
+module _ (k n : Kept) (id : ℕ) (o : Object) (rows : n.rows ≡ map.insert k.rows id o) (used : was_used n ≡ (λ other. id == other || was_used k other))
     (none : map.get k.rows id ≡ None) (is_new : IsNew o.detail) where
   pub created : answers n ≡ after (answers k) (creates id o.parent (detail_of o.detail))
   unfolding answers after
@@ -75,7 +76,7 @@ module _ (k n : Kept) (id : ℕ) (o : Object) (rows : n.rows ≡ map.insert k.ro
 
 -- ---- an object that is bound, mapped or gets a layout
 
-module _ (k n : Kept) (id : ℕ) (o : Object) (d : Detail) (rows : n.rows ≡ map.insert k.rows id (record o { detail = d })) (used : n.used ≡ k.used)
+module _ (k n : Kept) (id : ℕ) (o : Object) (d : Detail) (rows : n.rows ≡ map.insert k.rows id (record o { detail = d })) (ended : n.ended ≡ k.ended)
     (some : map.get k.rows id ≡ Some o) (parameters : detail_of d ≡ detail_of o.detail) where
   here : (x : ℕ) → id ≡ x → map.get k.rows x ≡ Some o
   here x p = rw (sym p) some
@@ -89,6 +90,13 @@ module _ (k n : Kept) (id : ℕ) (o : Object) (d : Detail) (rows : n.rows ≡ ma
       let h = here x in
       let m = same_made in
       grind (arith, nat_tests, a, h, m)
+
+  used_now : (x : ℕ) → was_used n x ≡ was_used k x
+  used_now x =
+      let a = at_insert k.rows n.rows id (record o { detail = d }) rows x in
+      let h = here x in
+      let e = ap (λ s. holds s x) ended in
+      grind (arith, nat_tests, a, h, e)
 
   ids_same : map.keys n.rows ≡ map.keys k.rows
   ids_same = ap map.keys rows ∙ ids-insert_over k.rows id (record o { detail = d }) (ap is_some some)
@@ -122,7 +130,7 @@ module _ (k n : Kept) (id : ℕ) (o : Object) (d : Detail) (rows : n.rows ≡ ma
       → answers n ≡ after (answers k) (binds id memory offset)
   unfolding answers after
   bound memory offset b m l =
-      view_ext _ _ live_same ids_same (λ x. ap (λ u. holds u x) used)
+      view_ext _ _ live_same ids_same used_now
       (λ x. bound_now _ b x ∙ at_its_id x _ _) (mapped_same m) (layout_same l)
       (λ x. refl) (λ x. refl) (λ x. refl) refl refl refl
 
@@ -130,14 +138,14 @@ module _ (k n : Kept) (id : ℕ) (o : Object) (d : Detail) (rows : n.rows ≡ ma
       → answers n ≡ after (answers k) (maps id offset length)
   unfolding answers after
   mapped offset length m b l =
-      view_ext _ _ live_same ids_same (λ x. ap (λ u. holds u x) used)
+      view_ext _ _ live_same ids_same used_now
       (bound_same b) (mapped_now _ m) (layout_same l)
       (λ x. refl) (λ x. refl) (λ x. refl) refl refl refl
 
   pub unmapped : mapped_of d ≡ None → bound_of d ≡ bound_of o.detail → layout_of d ≡ layout_of o.detail → answers n ≡ after (answers k) (unmaps id)
   unfolding answers after
   unmapped m b l =
-      view_ext _ _ live_same ids_same (λ x. ap (λ u. holds u x) used)
+      view_ext _ _ live_same ids_same used_now
       (bound_same b) (mapped_now _ m) (layout_same l)
       (λ x. refl) (λ x. refl) (λ x. refl) refl refl refl
 
@@ -145,7 +153,7 @@ module _ (k n : Kept) (id : ℕ) (o : Object) (d : Detail) (rows : n.rows ≡ ma
       → answers n ≡ after (answers k) (changes (set_layout id layout))
   unfolding answers after
   laid_out layout l b m =
-      view_ext _ _ live_same ids_same (λ x. ap (λ u. holds u x) used)
+      view_ext _ _ live_same ids_same used_now
       (bound_same b) (mapped_same m) (λ x. layout_now _ l x ∙ at_its_id x _ _)
       (λ x. refl) (λ x. refl) (λ x. refl) refl refl refl
 
@@ -159,10 +167,10 @@ laid_so k id o layout some is =
 
 -- ---- the same rows
 
-pub answers_same : (k n : Kept) → n.rows ≡ k.rows → holds n.used ≡ holds k.used → answers n ≡ answers k
+pub answers_same : (k n : Kept) → n.rows ≡ k.rows → holds n.ended ≡ holds k.ended → answers n ≡ answers k
 unfolding answers
-answers_same k n rows used =
-    view_ext _ _ (λ x. ap (λ m. option_map made (map.get m x)) rows) (ap map.keys rows) (λ x. ap (λ f. f x) used)
+answers_same k n rows ended =
+    view_ext _ _ (λ x. ap (λ m. option_map made (map.get m x)) rows) (ap map.keys rows) (λ x. ap (λ f. f x) (used_same k n rows ended))
     (λ x. ap (λ m. option_and_then (λ o. bound_of o.detail) (map.get m x)) rows)
     (λ x. ap (λ m. option_and_then (λ o. mapped_of o.detail) (map.get m x)) rows)
     (λ x. ap (λ m. option_map_or (λ o. layout_of o.detail) (map.get m x) 0) rows)
@@ -219,7 +227,7 @@ module _ (m : FinMap nat_cmp Object) (stays : ℕ → Object → Bool) where
       each_id x None none = refl
       each_id x (Some o) some = let r = right x o some in grind (arith, r)
 
-module _ (k n : Kept) (gone : ℕ) (rows : n.rows ≡ kept_rows (λ x o. not (goes_with gone x (made o))) k.rows) (used : n.used ≡ k.used) where
+module _ (k n : Kept) (gone : ℕ) (rows : n.rows ≡ kept_rows (λ x o. not (goes_with gone x (made o))) k.rows) (used : was_used n ≡ was_used k) where
   at_end : (x : ℕ) → map.get n.rows x ≡ option_and_then (λ o. if not (goes_with gone x (made o)) then Some o else None) (map.get k.rows x)
   at_end x = ap (λ m. map.get m x) rows ∙ get-with_rows (λ x o. if not (goes_with gone x (made o)) then Some o else None) k.rows x
 
@@ -276,7 +284,7 @@ module _ (k n : Kept) (gone : ℕ) (rows : n.rows ≡ kept_rows (λ x o. not (go
       view_ext _ _
       (λ x. live_at_end x (map.get k.rows x) (map.get n.rows x) (at_end x))
       ids_at_end
-      (λ x. ap (λ u. holds u x) used)
+      (λ x. ap (λ f. f x) used)
       (λ x. bound_at_end x (map.get k.rows x) (map.get n.rows x) (at_end x))
       (λ x. mapped_at_end x (map.get k.rows x) (map.get n.rows x) (at_end x))
       (λ x. layout_at_end x (map.get k.rows x) (map.get n.rows x) (at_end x))
@@ -287,14 +295,14 @@ module _ (k n : Kept) (gone : ℕ) (rows : n.rows ≡ kept_rows (λ x o. not (go
 
 -- ---- no objects
 
-pub answers_none : (k : Kept) → k.rows ≡ map.empty → holds k.used ≡ (λ id. false) → answers k ≡ record (view_of []) { is_empty = false }
+pub answers_none : (k : Kept) → k.rows ≡ map.empty → holds k.ended ≡ (λ id. false) → answers k ≡ record (view_of []) { is_empty = false }
 unfolding answers asked.live asked.ids asked.used asked.bound asked.mapped asked.layout asked.buffer asked.signalled asked.acquired asked.next_frame asked.open_section
-answers_none k rows used =
+answers_none k rows ended =
     let none = λ (x : ℕ). ap (λ m. map.get m x) rows ∙ get-empty nat_cmp x in
     view_ext _ _
     (λ x. ap (option_map made) (none x))
     (ap map.keys rows ∙ no_keys)
-    (λ x. ap (λ f. f x) used)
+    (λ x. let row = none x in let e = ap (λ f. f x) ended in grind (arith, row, e))
     (λ x. ap (option_and_then (λ o. bound_of o.detail)) (none x))
     (λ x. ap (option_and_then (λ o. mapped_of o.detail)) (none x))
     (λ x. ap (λ q. option_map_or (λ o. layout_of o.detail) q 0) (none x))

@@ -1,5 +1,5 @@
 -- What the tables of all objects are seen as, and how they belong together.
-use Rattle.std.specs.Prelude.{◌≡◌, ◌≤◌, Option, Some}
+use Rattle.std.specs.Prelude.{◌≡◌, ◌+◌, ◌≤◌, Option, Some}
 use Rattle.gfx_table.specs.Groups.{is_member}
 use Rattle.gfx_model.specs.Views.{device_of}
 use Rattle.gfx_objects.specs.declared.devices.Noted.{Noted}
@@ -7,14 +7,14 @@ use Rattle.gfx_objects.specs.declared.objects.Objects.TheInside.{Inside}
 use Rattle.gfx_objects.specs.Objects.{answers, Kept, IsSound, IsIndexed, IsGrouped}
 use Rattle.gfx_objects.specs.Children.{count_of}
 
--- the rows, the used ids, the sets of what is owned, and the reserved room
+-- the rows, the ids of what ended, the sets of what is owned, and the reserved room
 abbrev pub kept_of : Inside → Kept
-kept_of s = record { rows = s.rows.map; used = s.used; owned = s.owned.sets.map; spare = s.room }
+kept_of s = record { rows = s.rows.map; ended = s.ended; owned = s.owned.sets.map; spare = s.room }
 
--- each table has room for the reserved creations
+-- each table has room for the reserved creations, and the set of ended ids for all that is live too
 pub record HasRoom (s : Inside) : Type 0 where
   pub rows : s.room ≤ s.rows.spare
-  pub used : s.room ≤ s.used.spare
+  pub ended : s.count + s.room ≤ s.ended.spare
   pub children : s.room ≤ s.children.counts.spare
   pub swapchains : s.room ≤ s.swapchains.counts.spare
 

@@ -1,5 +1,5 @@
 -- What is kept of all objects, and what it answers to the questions of a capture.
-use Rattle.std.specs.Prelude.{◌≡◌, ℕ, ◌+◌, ◌<◌, ◌≤◌, ◌==◌, Bool, true, false, Option, Some, None, is_some, option_map, option_and_then, if◌then◌else◌, refl}
+use Rattle.std.specs.Prelude.{◌≡◌, ℕ, ◌+◌, ◌<◌, ◌≤◌, ◌==◌, ◌||◌, Bool, true, false, Option, Some, None, is_some, option_map, option_and_then, if◌then◌else◌, refl}
 use Rattle.std.specs.Option.{option_map_or}
 use Rattle.std.specs.Ordering.{nat_cmp}
 use Rattle.std.specs.Coded.{Coded, code_by, coded×, coded_ℕ}
@@ -18,12 +18,12 @@ use Rattle.gfx_objects.specs.declared.object.Object.{Object}
 use Rattle.gfx_objects.specs.Object.{made, detail_of, bound_of, mapped_of, layout_of, is_within, is_owned_by, owner_of, memory_of, surface_of}
 use Rattle.gfx_objects.specs.Children.{is_at}
 
--- the rows, the used ids, the sets of what is owned and the reserved room
+-- the rows, the ids of what ended, the sets of what is owned and the reserved room
 pub record Kept : Type 0 where
   -- the live objects by their ids
   pub rows : FinMap nat_cmp Object
-  -- the set of all ids that were ever used
-  pub used : Slots ℕ
+  -- the set of the ids of all objects that ended
+  pub ended : Slots ℕ
   -- under each id the set of what it owns
   pub owned : FinMap nat_cmp (Slots (Unit {0}))
   -- how many creations there is room for
@@ -34,14 +34,18 @@ abbrev pub kept_code : Coded Object → Coded Kept
 kept_code code =
     code_by (FinMap nat_cmp Object × (Slots ℕ × (FinMap nat_cmp (Slots (Unit {0})) × ℕ)))
     (coded× (map.code coded_ℕ code) (coded× (slots_code coded_ℕ) (coded× (map.code coded_ℕ (slots_code coded_unit)) coded_ℕ)))
-    (λ k. (k.rows, (k.used, (k.owned, k.spare)))) (λ p. record { rows = p.0; used = p.1.0; owned = p.1.1.0; spare = p.1.1.1 }) (λ _. refl)
+    (λ k. (k.rows, (k.ended, (k.owned, k.spare)))) (λ p. record { rows = p.0; ended = p.1.0; owned = p.1.1.0; spare = p.1.1.1 }) (λ _. refl)
+
+-- an id was used: its object is live, or it ended
+abbrev pub was_used : Kept → ℕ → Bool
+was_used k id = is_some (map.get k.rows id) || holds k.ended id
 
 -- What the rows answer. Commands, signals, acquired images and frames are kept elsewhere: they are plain here.
 unfoldable pub answers : Kept → View
 answers k = record {
   live = λ x. option_map made (map.get k.rows x);
   ids = map.keys k.rows;
-  used = holds k.used;
+  used = was_used k;
   bound = λ x. option_and_then (λ o. bound_of o.detail) (map.get k.rows x);
   mapped = λ x. option_and_then (λ o. mapped_of o.detail) (map.get k.rows x);
   layout = λ x. option_map_or (λ o. layout_of o.detail) (map.get k.rows x) 0;
@@ -62,15 +66,14 @@ pub record IsRow (id : ℕ) (o : Object) : Type 0 where
 
 -- what is bound so was bound to a memory that was live, and ends inside it as long as it is
 pub record RestsIn (k : Kept) (d : Detail) (b : Binding) : Type 0 where
-  pub used : holds k.used b.memory ≡ true
+  pub used : was_used k b.memory ≡ true
   pub inside : (m : Object) → map.get k.rows b.memory ≡ Some m → b.offset + detail_size d ≤ detail_size (detail_of m.detail)
 
--- What always holds: each row has its own id and kind, and ends inside the memory to which it is bound, its id was used,
--- and the limits on objects and bytes are kept.
+-- What always holds: each row has its own id and kind, and ends inside the memory to which it is bound, and the limits on
+-- objects and bytes are kept.
 pub record IsSound (k : Kept) : Type 0 where
   pub row : (id : ℕ) (o : Object) → map.get k.rows id ≡ Some o → IsRow id o
   pub bound : (id : ℕ) (o : Object) (b : Binding) → map.get k.rows id ≡ Some o → bound_of o.detail ≡ Some b → RestsIn k (detail_of o.detail) b
-  pub used : (id : ℕ) → is_some (map.get k.rows id) ≡ true → holds k.used id ≡ true
   pub few : map.len k.rows ≤ max_live_objects
   pub small : total (λ id o. detail_bytes (detail_of o.detail)) k.rows ≤ max_live_bytes
 

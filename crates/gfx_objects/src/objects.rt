@@ -1,4 +1,4 @@
-//! The live objects, and all ids that were ever used.
+//! The live objects, and the ids of those that ended.
 ghost use Rattle.std.specs.Prelude.{◌≡◌, ℕ, ◌+◌, ◌-◌, ◌<◌, ◌≤◌, ◌^◌, ◌==◌, ◌&&◌, ◌||◌, [], true, false, Some, None, IsTrue, IsSome, IfSome, IfOk, OnOk, OnErr, option_map, if◌then◌else◌};
 ghost use Rattle.std.specs.Option.{option_copied};
 ghost use Rattle.std.specs.FinMap as map;
@@ -9,12 +9,11 @@ ghost use Rattle.gfx_model.specs.Questions as asked;
 ghost use Rattle.gfx_model.specs.Views as view;
 ghost use Rattle.gfx_model.specs.After.{after};
 ghost use Rattle.gfx_model.specs.Limits.{max_live_bytes, max_live_objects};
-ghost use Rattle.gfx_table.specs.Used.{holds};
 ghost use Rattle.gfx_table.specs.Dense.{is_listed, StandApart};
 ghost use Rattle.gfx_table.specs.Slots.{least_above};
 ghost use Rattle.gfx_table.specs.Groups.{room_in};
 ghost use Rattle.gfx_objects.specs.Object.{made, detail_of, bound_of, memory_of, IsNew, is_within};
-ghost use Rattle.gfx_objects.specs.Objects.{answers, of_owner, IsRow, RestsIn, IsSound, bytes_in};
+ghost use Rattle.gfx_objects.specs.Objects.{answers, was_used, of_owner, IsRow, RestsIn, IsSound, bytes_in};
 
 use crate::children::ChildCounts;
 use crate::devices::Noted;
@@ -30,11 +29,12 @@ use std::marker::Model;
 // So many creations are made room for at once.
 const AHEAD: u32 = 64;
 
-/// The live objects of a capture, and all ids that were ever used.
+/// The live objects of a capture, and the ids of those that ended, so that no id is used twice.
 #[derive(Drop)]
 pub struct Objects {
     rows: Stored<Object>,
-    used: UsedIds,
+    // the ids of what ended
+    ended: UsedIds,
     children: ChildCounts,
     // the live swapchains on each surface
     swapchains: ChildCounts,
@@ -74,7 +74,7 @@ impl Objects {
     {
         Objects {
             rows: Stored::new(alloc),
-            used: UsedIds::new(alloc),
+            ended: UsedIds::new(alloc),
             children: ChildCounts::new(alloc),
             swapchains: ChildCounts::new(alloc),
             owned: Groups::new(alloc),
@@ -110,7 +110,7 @@ impl Objects {
     pub fn was_used(&self, id: u64) -> bool
         ensures { result ≡ (answers self.now).used id }
     {
-        self.used.contains(id)
+        self.rows.get(id).is_some() || self.ended.contains(id)
     }
 
     /// How many live objects have this parent.
@@ -193,10 +193,11 @@ impl Objects {
         self.noted = None;
         let Ok(()) = reserve_each(
             &mut self.rows,
-            &mut self.used,
+            &mut self.ended,
             &mut self.children,
             &mut self.swapchains,
             room as usize,
+            self.count as usize,
         ) else {
             return Err(WantMemory);
         };
@@ -298,7 +299,7 @@ impl Objects {
 
     // Puts a row to the others, and counts it.
     fn add(&mut self, object: Object)
-        requires unused { holds self.old.used object.id ≡ false }
+        requires unused { was_used self.old object.id ≡ false }
         requires row { IsRow object.id object }
         requires unbound { bound_of object.detail ≡ None }
         requires few { map.len self.old.rows < max_live_objects }
@@ -307,7 +308,7 @@ impl Objects {
         requires owner { asked.is_owned (detail_of object.detail) ≡ true → 1 ≤ room_in self.old.owned object.parent }
         ensures fresh { map.get self.old.rows object.id ≡ None }
         ensures rows { self.new.rows ≡ map.insert self.old.rows object.id object }
-        ensures used { holds self.new.used ≡ (λ other. object.id == other || holds self.old.used other) }
+        ensures used { was_used self.new ≡ (λ other. object.id == other || was_used self.old other) }
         ensures spare { self.new.spare + 1 ≡ self.old.spare }
         ensures rooms { (x : ℕ) → room_in self.old.owned x ≤ room_in self.new.owned x + (if object.parent == x then 1 else 0) }
     {
@@ -319,7 +320,6 @@ impl Objects {
         self.children.add(object.parent);
         put_in(&mut self.owned, owner, object.id);
         self.swapchains.add_to(surface);
-        self.used.insert(object.id);
         self.rows.insert(object.id, object);
         self.room -= 1;
     }
@@ -330,7 +330,7 @@ impl Objects {
         requires parameters { detail_of detail ≡ detail_of object.detail }
         requires bound { bound_of detail ≡ bound_of object.detail }
         ensures rows { self.new.rows ≡ map.insert self.old.rows id (record object { detail = detail }) }
-        ensures used { self.new.used ≡ self.old.used }
+        ensures ended { self.new.ended ≡ self.old.ended }
         ensures spare { self.new.spare ≡ self.old.spare }
     {
         self.noted = None;
@@ -351,7 +351,7 @@ impl Objects {
         requires rests { (b : asked.Binding) → bound_of detail ≡ Some b → RestsIn self.old (detail_of detail) b }
         ensures ok { OnOk result (self.new.rows ≡ map.insert self.old.rows id (record object { detail = detail })) }
         ensures err { OnErr result (self.new.rows ≡ self.old.rows) }
-        ensures used { self.new.used ≡ self.old.used }
+        ensures ended { self.new.ended ≡ self.old.ended }
         ensures spare { self.new.spare ≡ self.old.spare }
     {
         if self.resting.reserve(memory, 1).is_err() {
@@ -364,10 +364,10 @@ impl Objects {
         Ok(())
     }
 
-    // Takes a row out, where there is one, and uncounts it.
+    // Takes a row out, where there is one, uncounts it, and keeps its id.
     fn remove_row(&mut self, id: u64)
         ensures rows { self.new.rows ≡ map.remove self.old.rows id }
-        ensures used { self.new.used ≡ self.old.used }
+        ensures used { was_used self.new ≡ was_used self.old }
         ensures spare { self.new.spare ≡ self.old.spare }
     {
         self.noted = None;
@@ -379,6 +379,7 @@ impl Objects {
             take_from(&mut self.owned, owner, id);
             self.swapchains.remove_from(surface);
             take_from(&mut self.resting, memory, id);
+            self.ended.insert(id);
             self.bytes -= object.detail.bytes();
             self.count -= 1;
         }

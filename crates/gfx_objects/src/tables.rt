@@ -1,5 +1,5 @@
 //! What is done to some of the tables, whatever the others say.
-ghost use Rattle.std.specs.Prelude.{◌≡◌, ℕ, ◌+◌, ◌≤◌, ◌==◌, ◌&&◌, ◌||◌, false, Some, OnOk, if◌then◌else◌};
+ghost use Rattle.std.specs.Prelude.{◌≡◌, ℕ, ◌+◌, ◌<◌, ◌≤◌, ◌^◌, ◌==◌, ◌&&◌, ◌||◌, false, Some, OnOk, if◌then◌else◌};
 ghost use Rattle.gfx_table.specs.Groups.{is_member, room_in};
 ghost use Rattle.gfx_table.specs.Used.{holds};
 ghost use Rattle.gfx_objects.specs.Children.{is_at, count_of};
@@ -9,31 +9,33 @@ use crate::object::Object;
 use gfx_table::{Groups, Stored, UsedIds};
 use std::alloc::AllocError;
 
-/// Makes room in each of the tables.
+/// Makes room for so many rows in each of the tables, and for the ids of what is live, which will end.
 pub(crate) fn reserve_each(
     rows: &mut Stored<Object>,
-    used: &mut UsedIds,
+    ended: &mut UsedIds,
     children: &mut ChildCounts,
     swapchains: &mut ChildCounts,
     more: usize,
+    live: usize,
 ) -> Result<(), AllocError>
+    requires { live + more < 2 ^ 64 }
     ensures rows { rows.new.map ≡ rows.old.map }
-    ensures used { holds used.new ≡ holds used.old }
+    ensures ended { holds ended.new ≡ holds ended.old }
     ensures children { count_of children.new.counts.map ≡ count_of children.old.counts.map }
     ensures swapchains { count_of swapchains.new.counts.map ≡ count_of swapchains.old.counts.map }
 
     ensures rows_room { rows.old.spare ≤ rows.new.spare }
-    ensures used_room { used.old.spare ≤ used.new.spare }
+    ensures ended_room { ended.old.spare ≤ ended.new.spare }
     ensures children_room { children.old.counts.spare ≤ children.new.counts.spare }
     ensures swapchains_room { swapchains.old.counts.spare ≤ swapchains.new.counts.spare }
 
     ensures rows_made { OnOk result (more ≤ rows.new.spare) }
-    ensures used_made { OnOk result (more ≤ used.new.spare) }
+    ensures ended_made { OnOk result (live + more ≤ ended.new.spare) }
     ensures children_made { OnOk result (more ≤ children.new.counts.spare) }
     ensures swapchains_made { OnOk result (more ≤ swapchains.new.counts.spare) }
 {
     rows.reserve(more)?;
-    used.reserve(more)?;
+    ended.reserve(live + more)?;
     children.reserve(more)?;
     swapchains.reserve(more)
 }

@@ -20,10 +20,10 @@ returns-clause-ok c =
     let some = sym c.get.ensures.row ∙ sym c.in-Some.ensures in
     let e = c.bound_to-detail.ensures in
     on_ok_weaker c.rest_on.result
-    (λ rows. bound k c.rest_on.new.self c.args.id c.in-Some.object c.bound_to-detail.result rows c.rest_on.ensures.used some e.parameters
+    (λ rows. bound k c.rest_on.new.self c.args.id c.in-Some.object c.bound_to-detail.result rows c.rest_on.ensures.ended some e.parameters
     c.args.memory c.args.offset (e.bound (resource_live k c.args.id c.in-Some.object some c.requires.resource)) e.mapped e.layout)
     c.rest_on.ensures.ok
 
 pub returns-clause-err : goal.returns-clause-err
 returns-clause-err c =
-    on_err_weaker c.rest_on.result (λ rows. answers_same c.args.self.now c.rest_on.new.self rows (ap holds c.rest_on.ensures.used)) c.rest_on.ensures.err
+    on_err_weaker c.rest_on.result (λ rows. answers_same c.args.self.now c.rest_on.new.self rows (ap holds c.rest_on.ensures.ended)) c.rest_on.ensures.err

@@ -22,7 +22,6 @@ invariant_of-result c =
       sound = record {
         row = λ id o some. let n = none id in absurd (grind (arith, n, some));
         bound = λ id o b some is. let n = none id in absurd (grind (arith, n, some));
-        used = λ id some. let n = none id in absurd (grind (arith, n, some));
         few = let n = ap map.len c.new.ensures ∙ len-empty nat_cmp Object in omega (arith, n);
         small = let n = nothing (λ id o. detail_bytes (detail_of o.detail)) in omega (arith, n);
       };
@@ -33,10 +32,10 @@ invariant_of-result c =
       };
       grouped = no_groups c.new.result.map (is_member c.new-5.result.sets.map) (is_member c.new-6.result.sets.map) (count_of c.new-4.result.counts.map)
           c.new.ensures c.new-5.ensures c.new-6.ensures c.new-4.ensures;
-      has_room = record { rows = omega arith; used = omega arith; children = omega arith; swapchains = omega arith };
+      has_room = record { rows = omega arith; ended = omega arith; children = omega arith; swapchains = omega arith };
       noted = none_noted _;
     }
 
 pub returns-clause-plain : goal.returns-clause-plain
 returns-clause-plain c =
-    answers_none (record { rows = c.new.result.map; used = c.new-2.result; owned = c.new-5.result.sets.map; spare = 0 }) c.new.ensures c.new-2.ensures
+    answers_none (record { rows = c.new.result.map; ended = c.new-2.result; owned = c.new-5.result.sets.map; spare = 0 }) c.new.ensures c.new-2.ensures

@@ -4,7 +4,7 @@ use Rattle.std.proofs.lemmas.Bool.Decides.{nat_tests}
 use Rattle.gfx_table.specs.Groups.{is_member}
 use Rattle.gfx_model.specs.Questions.{is_owned, passes}
 use Rattle.gfx_objects.specs.Inside.{kept_of}
-use Rattle.gfx_objects.specs.Objects.{answers}
+use Rattle.gfx_objects.specs.Objects.{answers, was_used}
 use Rattle.gfx_objects.proofs.Asked.{owned_answered}
 use Rattle.gfx_objects.proofs.Index.{len_removed}
 use Rattle.gfx_objects.proofs.Owned.{owned_anew, last_listed, none_listed, owned_row, not_owned_row, one_gone, all_ended}
@@ -58,4 +58,4 @@ returns-clause-step c =
     (all_ended c.args.id c.args.self.now.rows c.owned.self.rows c.remove_row-2.new.self.rows c.owned.invariant.rows
     (λ x o some. not_owned_row c.owned.self c.args.id x o (sym (c.owned-in-owned.ensures.all x) ∙ none_listed c.owned-in-owned.result.now last x) some)
     (c.remove_row-2.ensures.rows ∙ ap (λ k. map.remove k.rows c.args.id) c.self.view_is))
-    (c.remove_row-2.ensures.used ∙ ap (λ k. k.used) c.self.view_is ∙ c.owned.invariant.used)
+    (c.remove_row-2.ensures.used ∙ ap was_used c.self.view_is ∙ c.owned.invariant.used)

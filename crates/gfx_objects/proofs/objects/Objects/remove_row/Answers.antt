@@ -4,10 +4,11 @@ use Rattle.gfx_table.specs.Groups.{is_member}
 use Rattle.gfx_table.specs.Rows.{remove_none}
 use Rattle.gfx_model.specs.Views.{detail_bytes}
 use Rattle.gfx_objects.specs.Object.{detail_of}
+use Rattle.gfx_objects.specs.Objects.{Kept, was_used}
 use Rattle.gfx_objects.specs.Inside.{kept_of}
 use Rattle.gfx_objects.specs.Children.{is_at, count_of}
 use Rattle.gfx_objects.proofs.Index.{total_removed, len_removed}
-use Rattle.gfx_objects.proofs.Kept.{none_noted, sound_same, sound_removed, indexed_same, indexed_removed}
+use Rattle.gfx_objects.proofs.Kept.{none_noted, used_removed, used_same, sound_same, sound_removed, indexed_same, indexed_removed}
 use Rattle.gfx_objects.proofs.Grouped.{grouped_same, grouped_removed}
 use Rattle.gfx_objects.proofs.objects.Objects.remove_row.Goals as goal
 
@@ -27,6 +28,13 @@ overflow_sub-self-in-Some c =
     let less = len_removed c.self.inside.rows.map c.args.id c.in-Some.object (sym c.in-Some.ensures.value) in
     omega (arith, all, less)
 
+pub insert-requires : goal.insert-requires
+insert-requires c =
+    let room = c.self.invariant.has_room.ended in
+    let all = c.self.invariant.indexed.in_number in
+    let less = len_removed c.self.inside.rows.map c.args.id c.in-Some.object (sym c.in-Some.ensures.value) in
+    omega (arith, room, all, less)
+
 pub invariant_of-self : goal.invariant_of-self
 invariant_of-self c =
     let s = c.self.inside in
@@ -34,8 +42,8 @@ invariant_of-self c =
     let some = sym c.in-Some.ensures.value in
     let room = c.self.invariant.has_room in
     record {
-      sound = sound_removed (kept_of s) (record { rows = c.remove.new.self.map; used = s.used; owned = c.take_from.new.groups.sets.map; spare = s.room }) c.args.id o
-          c.in-Some.ensures.map some refl c.self.invariant.sound;
+      sound = sound_removed (kept_of s) (record { rows = c.remove.new.self.map; ended = c.insert.new.self; owned = c.take_from.new.groups.sets.map; spare = s.room }) c.args.id o
+          c.in-Some.ensures.map some (used_removed (kept_of s) (record { rows = c.remove.new.self.map; ended = c.insert.new.self; owned = c.take_from.new.groups.sets.map; spare = s.room }) c.args.id o c.in-Some.ensures.map some c.insert.ensures.ids) c.self.invariant.sound;
       indexed = indexed_removed s.rows.map c.remove.new.self.map (count_of s.children.counts.map) (count_of c.remove-in-Some.new.self.counts.map) s.bytes (s.bytes - c.bytes.result) s.count (s.count - 1) c.args.id o
           c.in-Some.ensures.map some c.remove-in-Some.ensures.counts (ap (λ n. s.bytes - n) c.bytes.ensures) refl c.self.invariant.indexed;
       grouped = grouped_removed s.rows.map c.remove.new.self.map (is_member s.owned.sets.map) (is_member c.take_from.new.groups.sets.map)
@@ -46,7 +54,12 @@ invariant_of-self c =
           (λ g. c.remove_from.ensures.counts g ∙ ap (λ its. count_of s.swapchains.counts.map g - (if is_at g its then 1 else 0)) c.surface-surface.ensures);
       has_room = record {
         rows = let a = room.rows in let b = c.in-Some.ensures.spare in omega (arith, a, b);
-        used = room.used;
+        ended =
+            let a = room.ended in
+            let b = c.insert.ensures.spare in
+            let all = c.self.invariant.indexed.in_number in
+            let less = len_removed s.rows.map c.args.id o some in
+            omega (arith, a, b, all, less);
         children = let a = room.children in let b = c.remove-in-Some.ensures.room in omega (arith, a, b);
         swapchains = let a = room.swapchains in let b = c.remove_from.ensures.room in omega (arith, a, b);
       };
@@ -60,16 +73,28 @@ invariant_of-self-in_default c =
     let same = c.in_default.ensures.map ∙ remove_none s.rows.map c.args.id none in
     let room = c.self.invariant.has_room in
     record {
-      sound = sound_same (kept_of s) (record { rows = c.remove.new.self.map; used = s.used; owned = s.owned.sets.map; spare = s.room }) same refl c.self.invariant.sound;
+      sound = sound_same (kept_of s) (record { rows = c.remove.new.self.map; ended = s.ended; owned = s.owned.sets.map; spare = s.room }) same refl c.self.invariant.sound;
       indexed = indexed_same s.rows.map c.remove.new.self.map (count_of s.children.counts.map) (count_of s.children.counts.map)
           s.bytes s.count same refl c.self.invariant.indexed;
       grouped = grouped_same s.rows.map c.remove.new.self.map (is_member s.owned.sets.map) (is_member s.owned.sets.map) (is_member s.resting.sets.map) (is_member s.resting.sets.map)
           (count_of s.swapchains.counts.map) (count_of s.swapchains.counts.map) same refl refl refl c.self.invariant.grouped;
       has_room = record {
         rows = let a = room.rows in let b = c.in_default.ensures.spare in omega (arith, a, b);
-        used = room.used;
+        ended = room.ended;
         children = room.children;
         swapchains = room.swapchains;
       };
       noted = none_noted _;
     }
+
+pub returns-in-Some-clause-used : goal.returns-in-Some-clause-used
+returns-in-Some-clause-used c =
+    let s = c.self.inside in
+    let new : Kept = record { rows = c.remove.new.self.map; ended = c.insert.new.self; owned = c.take_from.new.groups.sets.map; spare = s.room } in
+    used_removed (kept_of s) new c.args.id c.in-Some.object c.in-Some.ensures.map (sym c.in-Some.ensures.value) c.insert.ensures.ids ∙ ap was_used c.self.view_is
+
+pub returns-in_default-clause-used : goal.returns-in_default-clause-used
+returns-in_default-clause-used c =
+    let s = c.self.inside in
+    let same = c.in_default.ensures.map ∙ remove_none s.rows.map c.args.id (sym c.in_default.ensures.value) in
+    used_same (kept_of s) (record { rows = c.remove.new.self.map; ended = s.ended; owned = s.owned.sets.map; spare = s.room }) same refl ∙ ap was_used c.self.view_is

@@ -18,12 +18,12 @@ invariant_of-self-then-self-n c = owned_anew c.self.inside c.reserve.new.self c.
 pub returns-then-is_err-clause-same : goal.returns-then-is_err-clause-same
 returns-then-is_err-clause-same c =
     let s = c.self.inside in
-    answers_same (kept_of s) (record { rows = s.rows.map; used = s.used; owned = c.reserve.new.self.sets.map; spare = s.room }) refl refl ∙ ap answers c.self.view_is
+    answers_same (kept_of s) (record { rows = s.rows.map; ended = s.ended; owned = c.reserve.new.self.sets.map; spare = s.room }) refl refl ∙ ap answers c.self.view_is
 
 pub returns-then-self-n-clause-same : goal.returns-then-self-n-clause-same
 returns-then-self-n-clause-same c =
     let s = c.self.inside in
-    answers_same (kept_of s) (record { rows = s.rows.map; used = s.used; owned = c.reserve.new.self.sets.map; spare = s.room }) refl refl ∙ ap answers c.self.view_is
+    answers_same (kept_of s) (record { rows = s.rows.map; ended = s.ended; owned = c.reserve.new.self.sets.map; spare = s.room }) refl refl ∙ ap answers c.self.view_is
 
 pub invariant_of-self-in_default : goal.invariant_of-self-in_default
 invariant_of-self-in_default c =
@@ -32,14 +32,14 @@ invariant_of-self-in_default c =
     let n = c.reserve_each.new in
     let room = c.self.invariant.has_room in
     record {
-      sound = sound_same (kept_of s) (record { rows = n.rows.map; used = n.used; owned = c.reserve.new.self.sets.map; spare = s.room }) e.rows e.used c.self.invariant.sound;
+      sound = sound_same (kept_of s) (record { rows = n.rows.map; ended = n.ended; owned = c.reserve.new.self.sets.map; spare = s.room }) e.rows e.ended c.self.invariant.sound;
       indexed = indexed_same s.rows.map n.rows.map (count_of s.children.counts.map) (count_of n.children.counts.map)
           s.bytes s.count e.rows e.children c.self.invariant.indexed;
       grouped = grouped_same s.rows.map n.rows.map (is_member s.owned.sets.map) (is_member c.reserve.new.self.sets.map) (is_member s.resting.sets.map) (is_member s.resting.sets.map)
           (count_of s.swapchains.counts.map) (count_of n.swapchains.counts.map) e.rows c.reserve.ensures.same refl e.swapchains c.self.invariant.grouped;
       has_room = record {
         rows = let a = room.rows in let b = e.rows_room in omega (arith, a, b);
-        used = let a = room.used in let b = e.used_room in omega (arith, a, b);
+        ended = let a = room.ended in let b = e.ended_room in omega (arith, a, b);
         children = let a = room.children in let b = e.children_room in omega (arith, a, b);
         swapchains = let a = room.swapchains in let b = e.swapchains_room in omega (arith, a, b);
       };
@@ -51,7 +51,7 @@ returns-in_default-clause-same c =
     let s = c.self.inside in
     let e = c.reserve_each.ensures in
     let n = c.reserve_each.new in
-    answers_same (kept_of s) (record { rows = n.rows.map; used = n.used; owned = c.reserve.new.self.sets.map; spare = s.room }) e.rows e.used ∙ ap answers c.self.view_is
+    answers_same (kept_of s) (record { rows = n.rows.map; ended = n.ended; owned = c.reserve.new.self.sets.map; spare = s.room }) e.rows e.ended ∙ ap answers c.self.view_is
 
 pub invariant_of-self-2 : goal.invariant_of-self-2
 invariant_of-self-2 c =
@@ -60,12 +60,12 @@ invariant_of-self-2 c =
     let made = c.in-Ok.ensures in
     let n = c.reserve_each.new in
     record {
-      sound = sound_same (kept_of s) (record { rows = n.rows.map; used = n.used; owned = c.reserve.new.self.sets.map; spare = c.max-room.result }) e.rows e.used c.self.invariant.sound;
+      sound = sound_same (kept_of s) (record { rows = n.rows.map; ended = n.ended; owned = c.reserve.new.self.sets.map; spare = c.max-room.result }) e.rows e.ended c.self.invariant.sound;
       indexed = indexed_same s.rows.map n.rows.map (count_of s.children.counts.map) (count_of n.children.counts.map)
           s.bytes s.count e.rows e.children c.self.invariant.indexed;
       grouped = grouped_same s.rows.map n.rows.map (is_member s.owned.sets.map) (is_member c.reserve.new.self.sets.map) (is_member s.resting.sets.map) (is_member s.resting.sets.map)
           (count_of s.swapchains.counts.map) (count_of n.swapchains.counts.map) e.rows c.reserve.ensures.same refl e.swapchains c.self.invariant.grouped;
-      has_room = record { rows = made.rows_made; used = made.used_made; children = made.children_made; swapchains = made.swapchains_made };
+      has_room = record { rows = made.rows_made; ended = made.ended_made; children = made.children_made; swapchains = made.swapchains_made };
       noted = none_noted _;
     }
 
@@ -74,4 +74,4 @@ returns-clause-same c =
     let s = c.self.inside in
     let e = c.reserve_each.ensures in
     let n = c.reserve_each.new in
-    answers_same (kept_of s) (record { rows = n.rows.map; used = n.used; owned = c.reserve.new.self.sets.map; spare = c.max-room.result }) e.rows e.used ∙ ap answers c.self.view_is
+    answers_same (kept_of s) (record { rows = n.rows.map; ended = n.ended; owned = c.reserve.new.self.sets.map; spare = c.max-room.result }) e.rows e.ended ∙ ap answers c.self.view_is

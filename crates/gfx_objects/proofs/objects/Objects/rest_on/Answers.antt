@@ -26,7 +26,7 @@ invariant_of-self-2 c =
     let some = ap (λ k. map.get k.rows c.args.id) c.self.view_is ∙ c.requires.row in
     let bytes = ap detail_bytes c.requires.parameters in
     record {
-      sound = sound_changed (kept_of s) (record { rows = c.set.new.self.map; used = s.used; owned = s.owned.sets.map; spare = s.room }) c.args.id
+      sound = sound_changed (kept_of s) (record { rows = c.set.new.self.map; ended = s.ended; owned = s.owned.sets.map; spare = s.room }) c.args.id
           n c.set.ensures.map o some refl refl refl c.requires.parameters (λ b is. subst (λ k. RestsIn k (detail_of c.args.detail) b) (sym c.self.view_is) (c.requires.rests b is)) c.self.invariant.sound;
       indexed = indexed_changed s.rows.map c.set.new.self.map (count_of s.children.counts.map) s.bytes s.count c.args.id
           o n c.set.ensures.map some refl bytes c.self.invariant.indexed;
@@ -37,7 +37,7 @@ invariant_of-self-2 c =
           ∙ ap (λ f. if c.args.id == x then is_at g (memory_of c.args.detail) else f g x) c.reserve.ensures.same) refl refl;
       has_room = record {
         rows = let a = c.self.invariant.has_room.rows in let b = c.set.ensures.spare in omega (arith, a, b);
-        used = c.self.invariant.has_room.used;
+        ended = c.self.invariant.has_room.ended;
         children = c.self.invariant.has_room.children;
         swapchains = c.self.invariant.has_room.swapchains;
       };

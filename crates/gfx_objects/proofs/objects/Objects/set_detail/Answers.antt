@@ -21,7 +21,7 @@ invariant_of-self c =
     let bytes = ap detail_bytes c.requires.parameters in
     let same = ap (option_map (λ (b : Binding). b.memory)) c.requires.bound in
     record {
-      sound = sound_changed (kept_of s) (record { rows = c.set.new.self.map; used = s.used; owned = s.owned.sets.map; spare = s.room }) c.args.id
+      sound = sound_changed (kept_of s) (record { rows = c.set.new.self.map; ended = s.ended; owned = s.owned.sets.map; spare = s.room }) c.args.id
           n c.set.ensures.map o some refl refl refl c.requires.parameters (still_rests (kept_of s) c.self.invariant.sound c.args.id o some c.args.detail c.requires.parameters c.requires.bound) c.self.invariant.sound;
       indexed = indexed_changed s.rows.map c.set.new.self.map (count_of s.children.counts.map) s.bytes s.count c.args.id
           o n c.set.ensures.map some refl bytes c.self.invariant.indexed;
@@ -30,7 +30,7 @@ invariant_of-self c =
           (stays_under (λ o. memory_of o.detail) s.rows.map c.args.id (is_member s.resting.sets.map) c.self.invariant.grouped.by_memory o n some same) refl refl;
       has_room = record {
         rows = let a = c.self.invariant.has_room.rows in let b = c.set.ensures.spare in omega (arith, a, b);
-        used = c.self.invariant.has_room.used;
+        ended = c.self.invariant.has_room.ended;
         children = c.self.invariant.has_room.children;
         swapchains = c.self.invariant.has_room.swapchains;
       };

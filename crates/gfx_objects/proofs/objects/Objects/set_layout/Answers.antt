@@ -8,7 +8,7 @@ returns-then-layout-clause-step c =
     let k = c.args.self.now in
     let some = sym c.get.ensures.row ∙ sym c.in-Some.ensures in
     let e = c.with_layout-detail.ensures in
-    laid_out k c.set_detail.new.self c.args.image c.in-Some.object c.with_layout-detail.result c.set_detail.ensures.rows c.set_detail.ensures.used some e.parameters
+    laid_out k c.set_detail.new.self c.args.image c.in-Some.object c.with_layout-detail.result c.set_detail.ensures.rows c.set_detail.ensures.ended some e.parameters
     c.args.layout (e.layout (image_live k c.args.image c.in-Some.object some c.requires)) e.bound e.mapped
 
 pub returns-else-layout-clause-step : goal.returns-else-layout-clause-step

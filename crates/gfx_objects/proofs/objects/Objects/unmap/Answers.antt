@@ -13,5 +13,5 @@ returns-in-Some-clause-step c =
     let k = c.args.self.now in
     let some = sym c.get.ensures.row ∙ sym c.in-Some.ensures in
     let e = c.mapped_to-detail.ensures in
-    unmapped k c.set_detail.new.self c.args.memory c.in-Some.object c.mapped_to-detail.result c.set_detail.ensures.rows c.set_detail.ensures.used some e.parameters
+    unmapped k c.set_detail.new.self c.args.memory c.in-Some.object c.mapped_to-detail.result c.set_detail.ensures.rows c.set_detail.ensures.ended some e.parameters
     (e.mapped ∙ no_map (is_memory (detail_of c.in-Some.object.detail))) e.bound e.layout
