@@ -1,6 +1,6 @@
 -- The ids that a range needs, as far as they were found.
 use Rattle.std.specs.Prelude.{◌≡◌, ◌≤◌, ◌⊎◌, ℕ, ◌+◌, Bool, true, not, List, count_by, length, is_some, Contains, IsTrue}
-use Rattle.gfx_table.specs.Used.{holds}
+use Rattle.gfx_table.specs.IdSet.{holds}
 use Rattle.gfx_model.specs.Events.{Event}
 use Rattle.gfx_model.specs.Views.{View}
 use Rattle.gfx_feature_model.specs.Lean.{Needed, named_in}

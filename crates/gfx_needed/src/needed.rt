@@ -14,7 +14,7 @@ use gfx_commands::{CbState, Recorded};
 use gfx_objects::{Detail, Window};
 use gfx_params::{ParamFault, decode};
 use gfx_state::fetched;
-use gfx_table::UsedIds;
+use gfx_table::IdSet;
 use gfx_tracker::Tracker;
 use gfx_types::{Call, Effect, Place, WantMemory};
 use std::alloc::{AllocError, Global};
@@ -23,7 +23,7 @@ use std::alloc::{AllocError, Global};
 /// there, the same in all calls. After want of memory it is of no use.
 #[derive(Drop)]
 pub struct NeededIds {
-    marks: UsedIds,
+    marks: IdSet,
     // marked ids that were not looked at
     pending: Vec<u64>,
     alloc: Global,
@@ -40,7 +40,7 @@ impl NeededIds {
         ensures { (v : View) → IsSearched v [] result }
     {
         NeededIds {
-            marks: UsedIds::new(alloc),
+            marks: IdSet::new(alloc),
             pending: Vec::new(alloc),
             alloc,
         }

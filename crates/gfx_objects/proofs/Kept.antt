@@ -5,7 +5,7 @@ use Rattle.std.specs.FinMap as map
 use Rattle.std.specs.FinMap.{FinMap}
 use Rattle.std.proofs.lemmas.Bool.Decides.{nat_tests}
 use Rattle.std.proofs.lemmas.Option.{same_Some}
-use Rattle.gfx_table.specs.Used.{holds}
+use Rattle.gfx_table.specs.IdSet.{holds}
 use Rattle.gfx_model.specs.Steps.{Detail, kind_of}
 use Rattle.gfx_model.specs.Questions.{Binding}
 use Rattle.gfx_model.specs.Views.{detail_size, detail_bytes}

@@ -6,7 +6,7 @@ use Rattle.std.specs.Ordering.{nat_cmp}
 use Rattle.std.specs.FinMap as map
 use Rattle.std.specs.FinMap.{FinMap, get-empty, len-entries, len-empty}
 use Rattle.std.proofs.lemmas.Bool.Decides.{nat_tests}
-use Rattle.gfx_table.specs.Used.{holds}
+use Rattle.gfx_table.specs.IdSet.{holds}
 use Rattle.gfx_table.specs.Values.{with_rows, get-with_rows, kept_rows}
 use Rattle.gfx_table.specs.Rows.{ids, in_order, ids-insert_new, ids-insert_over, ids-with_rows, got-insert, same_rows}
 use Rattle.gfx_model.specs.Steps.Step.{creates, ends, binds, maps, unmaps, changes}

@@ -7,7 +7,7 @@ use base.Stored.{coded_unit}
 use Rattle.std.specs.FinMap as map
 use Rattle.std.specs.FinMap.{FinMap}
 use Rattle.gfx_table.specs.Slots.{Slots, slots_code}
-use Rattle.gfx_table.specs.Used.{holds}
+use Rattle.gfx_table.specs.IdSet.{holds}
 use Rattle.gfx_table.specs.Values.{with_rows}
 use Rattle.gfx_table.specs.Rows.{total}
 use Rattle.gfx_model.specs.Steps.{Detail, kind_of}

@@ -21,7 +21,7 @@ use crate::kinds::number_of;
 use crate::least::least_of;
 use crate::object::{Binding, Detail, Object};
 use crate::tables::{move_to, put_in, reserve_each, take_from};
-use gfx_table::{Groups, Stored, UsedIds};
+use gfx_table::{Groups, IdSet, Stored};
 use gfx_types::{Kind, MapRange, WantMemory};
 use std::alloc::{AllocError, Global};
 use std::marker::Model;
@@ -34,7 +34,7 @@ const AHEAD: u32 = 64;
 pub struct Objects {
     rows: Stored<Object>,
     // the ids of what ended
-    ended: UsedIds,
+    ended: IdSet,
     children: ChildCounts,
     // the live swapchains on each surface
     swapchains: ChildCounts,
@@ -74,7 +74,7 @@ impl Objects {
     {
         Objects {
             rows: Stored::new(alloc),
-            ended: UsedIds::new(alloc),
+            ended: IdSet::new(alloc),
             children: ChildCounts::new(alloc),
             swapchains: ChildCounts::new(alloc),
             owned: Groups::new(alloc),

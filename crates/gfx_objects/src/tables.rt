@@ -1,18 +1,18 @@
 //! What is done to some of the tables, whatever the others say.
 ghost use Rattle.std.specs.Prelude.{◌≡◌, ℕ, ◌+◌, ◌<◌, ◌≤◌, ◌^◌, ◌==◌, ◌&&◌, ◌||◌, false, Some, OnOk, if◌then◌else◌};
 ghost use Rattle.gfx_table.specs.Groups.{is_member, room_in};
-ghost use Rattle.gfx_table.specs.Used.{holds};
+ghost use Rattle.gfx_table.specs.IdSet.{holds};
 ghost use Rattle.gfx_objects.specs.Children.{is_at, count_of};
 
 use crate::children::ChildCounts;
 use crate::object::Object;
-use gfx_table::{Groups, Stored, UsedIds};
+use gfx_table::{Groups, IdSet, Stored};
 use std::alloc::AllocError;
 
 /// Makes room for so many rows in each of the tables, and for the ids of what is live, which will end.
 pub(crate) fn reserve_each(
     rows: &mut Stored<Object>,
-    ended: &mut UsedIds,
+    ended: &mut IdSet,
     children: &mut ChildCounts,
     swapchains: &mut ChildCounts,
     more: usize,

@@ -9,7 +9,7 @@ use Rattle.std.specs.FinMap.{get-insert, get-empty}
 use Rattle.std.proofs.lemmas.Bool.Decides.{nat_tests}
 use Rattle.std.proofs.lemmas.Nat.Bits.{bit_at-zero, bit_at_set_same, bit_at_set_other}
 use Rattle.gfx_table.specs.Slots.{Slots}
-use Rattle.gfx_table.specs.Used.{has_bit, holds}
+use Rattle.gfx_table.specs.IdSet.{has_bit, holds}
 
 bit_or_none : (o : Option ℕ) (place : ℕ) → has_bit o place ≡ (bit_at (unwrap_or o 0) place == 1)
 bit_or_none None place = rw (bit_at-zero place) refl

@@ -7,6 +7,6 @@ pub mod Groups
 pub mod Values
 pub mod Joined
 pub mod Least
-pub mod Used
+pub mod IdSet
 pub mod Rest
 pub mod Rows

@@ -1,6 +1,6 @@
 use Rattle.std.proofs.Common.{ap, sym, ◌∙◌}
 use Rattle.std.proofs.lemmas.Result.{on_ok_weaker, on_err_weaker}
-use Rattle.gfx_table.specs.Used.{holds}
+use Rattle.gfx_table.specs.IdSet.{holds}
 use Rattle.gfx_objects.proofs.Resources.{resource_live}
 use Rattle.gfx_objects.proofs.Resting.{new_rests}
 use Rattle.gfx_objects.proofs.Steps.{bound, answers_same}

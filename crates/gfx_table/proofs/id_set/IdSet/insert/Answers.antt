@@ -2,9 +2,9 @@ use Rattle.std.proofs.Common.{◌≡◌, ◌*◌, ◌/◌, ◌%◌, ◌^◌, ◌
 use Rattle.std.specs.Int.Bits.{or_zero_l}
 use Rattle.std.specs.Option.{unwrap_or}
 use Rattle.std.specs.FinMap as map
-use Rattle.gfx_table.specs.Used.{holds}
+use Rattle.gfx_table.specs.IdSet.{holds}
 use Rattle.gfx_table.proofs.Bits.{holds-insert}
-use Rattle.gfx_table.proofs.used.UsedIds.insert.Goals as goal
+use Rattle.gfx_table.proofs.id_set.IdSet.insert.Goals as goal
 
 pub returns-in-Some-clause-ids : goal.returns-in-Some-clause-ids
 returns-in-Some-clause-ids c =

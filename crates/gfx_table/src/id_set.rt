@@ -1,6 +1,6 @@
-//! The set of all ids that were ever used.
+//! A set of ids.
 ghost use Rattle.std.specs.Prelude.{◌≡◌, ◌+◌, ◌≤◌, ◌==◌, ◌||◌, false, OnOk};
-ghost use Rattle.gfx_table.specs.Used.{holds};
+ghost use Rattle.gfx_table.specs.IdSet.{holds};
 
 use crate::slotted::Slotted;
 use std::alloc::{AllocError, Global};
@@ -9,11 +9,11 @@ use std::marker::Model;
 /// A set of ids that only grows. It keeps one bit an id, in words of 64 ids, so ids that lie close together take little
 /// memory, and ids that lie apart one row each.
 #[derive(Drop)]
-pub struct UsedIds {
+pub struct IdSet {
     words: Slotted<u64>,
 }
 
-impl Model for UsedIds {
+impl Model for IdSet {
     ghost use Rattle.std.specs.Prelude.{ℕ};
     ghost use Rattle.std.specs.Coded.{coded_ℕ};
     ghost use Rattle.gfx_table.specs.Slots.{Slots, slots_code};
@@ -25,12 +25,12 @@ impl Model for UsedIds {
     ghost view = { λ ids. ids.words };
 }
 
-impl UsedIds {
+impl IdSet {
     /// The empty set.
     pub fn new(alloc: Global) -> Self
         ensures { holds result ≡ (λ id. false) }
     {
-        UsedIds {
+        IdSet {
             words: Slotted::new(alloc),
         }
     }

@@ -1,7 +1,7 @@
 use Rattle.std.proofs.Common.{◌%◌, ◌==◌, ap, ◌∙◌}
 use Rattle.std.proofs.lemmas.Nat.Bits.{shr_and_one}
-use Rattle.gfx_table.specs.Used.{has_bit, holds}
-use Rattle.gfx_table.proofs.used.UsedIds.contains.Goals as goal
+use Rattle.gfx_table.specs.IdSet.{has_bit, holds}
+use Rattle.gfx_table.proofs.id_set.IdSet.contains.Goals as goal
 
 pub returns-in-Some : goal.returns-in-Some
 unfolding holds
