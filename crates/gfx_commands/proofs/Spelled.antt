@@ -16,4 +16,4 @@ module _ (id : ℕ) (params : List ℕ) (e : Event) (number : id ≡ id_of e) (k
   its_event = ap (λ o. unwrap_or o (EndSection 0)) read
 
   pub are_fields : AreFields id params
-  are_fields = record { read = read ∙ ap Some (sym its_event); spelled = same ∙ ap (spelling 1) (sym its_event) }
+  are_fields = record { number = number ∙ ap id_of (sym its_event); read = read ∙ ap Some (sym its_event); spelled = same ∙ ap (spelling 1) (sym its_event) }

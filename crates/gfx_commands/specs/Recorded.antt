@@ -2,7 +2,7 @@
 use Rattle.std.specs.Prelude.{◌≡◌, ℕ, List, Some, unwrap_or}
 use Rattle.gfx_model.specs.Events.{Event}
 use Rattle.gfx_model.specs.Events.Event.{EndSection}
-use Rattle.gfx_model.specs.Spelling.{spelling}
+use Rattle.gfx_model.specs.Spelling.{spelling, id_of}
 use Rattle.gfx_grammar.specs.Rows.{read_call}
 use Rattle.gfx_commands.specs.declared.recorded.Recorded.{Recorded}
 
@@ -10,8 +10,9 @@ use Rattle.gfx_commands.specs.declared.recorded.Recorded.{Recorded}
 unfoldable pub event_with : ℕ → List ℕ → Event
 event_with id params = unwrap_or (read_call 1 id params) (EndSection 0)
 
--- the fields are those of a command, exactly
+-- the fields are those of a command of this number, exactly
 pub record AreFields (id : ℕ) (params : List ℕ) : Type 0 where
+  pub number : id ≡ id_of (event_with id params)
   pub read : read_call 1 id params ≡ Some (event_with id params)
   pub spelled : params ≡ spelling 1 (event_with id params)
 
