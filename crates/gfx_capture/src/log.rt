@@ -20,8 +20,8 @@ use crate::thread_buffer::ThreadBuffer;
 use gfx_blocks::put_header;
 use gfx_seats::Grows;
 use gfx_tracker::{ApplyFault, Tracker};
+use gfx_types::WantMemory;
 use gfx_types::limits::MAX_LOG;
-use gfx_types::{OpList, WantMemory};
 use std::alloc::Global;
 use std::marker::Model;
 
@@ -32,8 +32,6 @@ pub struct Log {
     count: u64,
     bytes: Vec<u8>,
     tracker: Tracker,
-    // where the operations of one effect are put, which nobody executes
-    ops: OpList,
     alloc: Global,
 }
 
@@ -64,7 +62,6 @@ impl Log {
             count: 0,
             bytes,
             tracker: Tracker::new(alloc),
-            ops: OpList::of(Vec::new(alloc)),
             alloc,
         })
     }
@@ -125,14 +122,7 @@ impl Log {
             });
         }
         put_with_thread(thread, block, &mut self.bytes)?;
-        let taken = take_block(
-            self.alloc,
-            self.minor,
-            block,
-            &mut self.tracker,
-            &mut self.ops,
-        );
-        match taken {
+        match take_block(self.alloc, self.minor, block, &mut self.tracker) {
             Ok(()) => {
                 self.count += 1;
                 Ok(())
@@ -145,13 +135,12 @@ impl Log {
     }
 }
 
-/// Has the tracker take the effect of a block. Its operations are dropped.
+/// Has the tracker take the effect of a block. Nobody asks for its operations.
 fn take_block(
     alloc: Global,
     minor: u32,
     block: &[u8],
     tracker: &mut Tracker,
-    ops: &mut OpList,
 ) -> Result<(), ApplyFault>
     requires version { IsVersion minor }
     requires block { IsPut minor block.now }
@@ -160,13 +149,11 @@ fn take_block(
     let Ok(effect) = read_back(alloc, minor, block) else {
         return Err(ApplyFault::WantMemory);
     };
-    match tracker.apply(&effect, ops) {
-        Ok(_) => {
-            ops.cut(0);
-            Ok(())
-        }
-        Err(fault) => Err(fault),
+    if let Some(fault) = tracker.fault_of(&effect) {
+        return Err(ApplyFault::Rule(fault));
     }
+    tracker.take(&effect)?;
+    Ok(())
 }
 
 fn refusal(fault: ApplyFault) -> BlockFault

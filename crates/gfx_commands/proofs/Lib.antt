@@ -10,3 +10,4 @@ pub mod Laid
 pub mod Running
 pub mod Naming
 pub mod Indexed
+pub mod Leaving

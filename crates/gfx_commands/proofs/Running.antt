@@ -1,7 +1,11 @@
 -- The commands of a buffer, one after another.
-use Rattle.std.proofs.Common.{◌≡◌, ℕ, ◌+◌, Some, List, [], ◌∷◌, ◌++◌, length, take, append_assoc, map, refl, sym, ap, ◌∙◌, arith}
+use Rattle.std.proofs.Common.{◌≡◌, ℕ, nat_eq, ◌+◌, Some, List, [], ◌∷◌, ◌++◌, length, take, append_assoc, map, refl, sym, ap, ◌∙◌, arith}
 use Rattle.std.specs.Prelude.{flat_map, slice_get}
 use Rattle.std.proofs.lemmas.List.{take-append-le, take-take, take_all, length-append}
+use Rattle.gfx_model.specs.Events.{Event}
+use Rattle.gfx_model.specs.Events.Event.{CmdPipelineBarrier}
+use Rattle.gfx_model.specs.Spelling.{id_of}
+use Rattle.gfx_ops.specs.Operations.{is_barrier}
 use Rattle.gfx_commands.proofs.Added.{flat_map-more}
 use Rattle.gfx_commands.proofs.Laid.{take_next}
 
@@ -23,3 +27,9 @@ pub ops_more : {X Y : Type 0} (f : X → List Y) (xs : List X) (k : ℕ) (x : X)
 ops_more f xs k x first old new there was now =
     now ∙ ap (λ l. l ++ f x) was ∙ append_assoc first (flat_map f (take k xs)) (f x)
     ∙ ap (λ l. first ++ l) (sym (ap (flat_map f) (take_next x xs k there) ∙ flat_map-more f (take k xs) x))
+
+-- the number of a barrier in the table of calls, which no other event has
+pub barrier_number : (e : Event) → nat_eq (id_of e) 26 ≡ is_barrier e
+unfolding id_of
+barrier_number (CmdPipelineBarrier cb barriers) = refl
+barrier_number _ = refl

@@ -1,8 +1,11 @@
--- Layouts that the command buffers of a call meet, one after the other.
+-- Layouts that the command buffers of a call meet, one after the other, and those that they set.
 use Rattle.std.specs.Prelude.{◌≡◌, ◌≤◌, ◌<◌, ℕ, Bool, true, false, Option, List, length, flat_map, slice_index, IfSome}
 use Rattle.gfx_types.specs.declared.lists.Submit.{Submit}
 use Rattle.gfx_model.specs.Questions.{Buffer}
-use Rattle.gfx_model.specs.Checks.{meets}
+use Rattle.gfx_types.specs.declared.names.Kind.TheVariants as kind
+use Rattle.gfx_model.specs.Views.{View, is_live}
+use Rattle.gfx_model.specs.Checks.{Layouts, meets}
+use Rattle.gfx_model.specs.Checks.Layouts.{stays, goes}
 use Rattle.gfx_model.specs.Layouts.{asked_in, cbs_at, executed_before, layouts_by}
 
 -- these command buffers meet their layouts, one after the other
@@ -21,3 +24,8 @@ pub record IsFirstDiffering (buffer : ℕ → Buffer) (layout : ℕ → ℕ) (su
   pub differs : IfSome first (λ place. meets_at buffer layout submits place.0 place.1 ≡ false)
   pub before : (submit at : ℕ) → submit < length submits → at < length (cbs_at submits submit)
       → IfSome first (λ place. (submit ≤ place.0) × (submit ≡ place.0 → at < place.1)) → meets_at buffer layout submits submit at ≡ true
+
+-- where a layout is set, it is that of a live image
+abbrev pub SetsLive : View → Layouts → Type 0
+SetsLive v (goes i before after) = is_live v kind.Image i ≡ true
+SetsLive v (stays i l) = Unit {0}

@@ -6,7 +6,7 @@ ghost use Rattle.gfx_model.specs.Spelling.{HasSpelling, spelling};
 ghost use Rattle.gfx_model.specs.Steps.{resources_of};
 ghost use Rattle.gfx_model.specs.Checks.{is_among, layouts_of};
 ghost use Rattle.gfx_objects.specs.Objects.{answers};
-ghost use Rattle.gfx_ops.specs.Operations.{ops_of_command};
+ghost use Rattle.gfx_ops.specs.Operations.{ops_of_command, listed};
 ghost use Rattle.gfx_commands.specs.Runnable.{IsRunnable};
 ghost use Rattle.gfx_commands.specs.Recorded.{event_in, IsRecorded};
 ghost use Rattle.gfx_commands.specs.Uses.{IsIndex};
@@ -126,15 +126,17 @@ impl Commands {
         Ok((self.fields.len() - before) as u64)
     }
 
-    /// Appends what the commands do to a list of operations. For want of memory the list begins with what it was.
+    /// Appends what the commands do to a list of operations, with the layouts that they set or without. For want of memory
+    /// the list begins with what it was.
     pub(crate) fn append_ops(
         &self,
         alloc: Global,
         objects: &Objects,
+        with_layouts: bool,
         ops: &mut OpList,
     ) -> Result<(), WantMemory>
         requires { AllByRecursion (IsRunnable (answers objects.now)) (events_in self.now) }
-        ensures ok { OnOk result (ops.new ≡ ops.old ++ flat_map (ops_of_command (answers objects.now)) (events_in self.now)) }
+        ensures ok { OnOk result (ops.new ≡ ops.old ++ listed with_layouts (flat_map (ops_of_command (answers objects.now)) (events_in self.now))) }
         ensures err { OnErr result (take (length ops.old) ops.new ≡ ops.old) }
     {
         let mut start = 0;
@@ -143,7 +145,7 @@ impl Commands {
                 call_id: command.call_id,
                 params: &self.fields[start..command.end],
             };
-            recorded.append_ops(alloc, objects, ops)?;
+            recorded.append_ops(alloc, objects, with_layouts, ops)?;
             start = command.end;
         }
         Ok(())

@@ -1,12 +1,13 @@
 //! The first command buffer of a call that does not meet the layouts that it asks for.
 ghost use Rattle.std.specs.Prelude.{◌≡◌, ℕ, ◌<◌, ◌≤◌, ◌+◌, true, false, not, None, IfSome, length, unwrap_or};
+ghost use Rattle.std.specs.List.{AllByRecursion};
 ghost use Rattle.gfx_model.specs.Checks.{layouts_after, meets};
 ghost use Rattle.gfx_model.specs.Layouts.{asked_in, cbs_at, executed_before, layouts_by};
 ghost use Rattle.gfx_model.specs.Limits.{max_submits, max_submit_buffers};
 ghost use Rattle.gfx_objects.specs.Objects.{answers};
 ghost use Rattle.gfx_commands.specs.Uses.{use_of, suits};
 ghost use Rattle.gfx_commands.specs.Recordings.{buffers};
-ghost use Rattle.gfx_commands.specs.Differing.{AreMet, IsFirstDiffering, meets_at};
+ghost use Rattle.gfx_commands.specs.Differing.{AreMet, IsFirstDiffering, meets_at, SetsLive};
 
 use crate::recordings::Recordings;
 use crate::uses::Uses;
@@ -153,6 +154,22 @@ impl Recordings {
             }
         }
         None
+    }
+
+    /// Sets the layouts in which the commands of a buffer leave images, which have to be live.
+    pub fn leave_layouts(&self, cb: u64, objects: &mut Objects)
+        requires { AllByRecursion (SetsLive (answers objects.old)) (asked_in (buffers self.now) cb) }
+        ensures layouts { answers objects.new ≡ record (answers objects.old) { layout = layouts_after (answers objects.old).layout (asked_in (buffers self.now) cb) } }
+        ensures spare { objects.new.spare ≡ objects.old.spare }
+    {
+        let Some(uses) = self.uses(cb) else {
+            return;
+        };
+        'images: for image in uses.ids() {
+            if let Some(layout) = uses.get(*image).left {
+                objects.set_layout(*image, layout);
+            }
+        }
     }
 
     // The layout in which this buffer leaves an image, where it meets its layouts and asks for the image.

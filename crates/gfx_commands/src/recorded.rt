@@ -1,7 +1,7 @@
 //! One recorded command.
 ghost use Rattle.std.specs.Prelude.{◌≡◌, ◌++◌, length, take, OnOk, OnErr};
 ghost use Rattle.gfx_objects.specs.Objects.{answers};
-ghost use Rattle.gfx_ops.specs.Operations.{ops_of_command};
+ghost use Rattle.gfx_ops.specs.Operations.{ops_of_command, listed, is_barrier};
 ghost use Rattle.gfx_commands.specs.Recorded.{event_in, IsRecorded};
 ghost use Rattle.gfx_commands.specs.Runnable.{IsRunnable};
 
@@ -17,9 +17,40 @@ pub struct Recorded<'a> {
     pub params: &'a [u8],
 }
 
+// The number of a barrier in the table of calls, which tells it without its fields being read.
+const BARRIER: u32 = 26;
+
 impl Recorded<'_> {
-    /// Appends what the command does to a list of operations. For want of memory the list begins with what it was.
+    /// Appends what the command does to a list of operations, with the layouts that it sets or without. For want of memory
+    /// the list begins with what it was.
     pub(crate) fn append_ops(
+        &self,
+        alloc: Global,
+        objects: &Objects,
+        with_layouts: bool,
+        ops: &mut OpList,
+    ) -> Result<(), WantMemory>
+        requires recorded { IsRecorded self.now }
+        requires runs { IsRunnable (answers objects.now) (event_in self.now) }
+        ensures ok { OnOk result (ops.new ≡ ops.old ++ listed with_layouts (ops_of_command (answers objects.now) (event_in self.now))) }
+        ensures err { OnErr result (take (length ops.old) ops.new ≡ ops.old) }
+    {
+        if !with_layouts && self.is_barrier() {
+            return Ok(());
+        }
+        self.append_all(alloc, objects, ops)
+    }
+
+    // Whether the command is a barrier, which sets layouts and changes no bytes.
+    fn is_barrier(&self) -> bool
+        requires { IsRecorded self.now }
+        ensures { result ≡ is_barrier (event_in self.now) }
+    {
+        self.call_id == BARRIER
+    }
+
+    // Appends all that the command does. For want of memory the list begins with what it was.
+    fn append_all(
         &self,
         alloc: Global,
         objects: &Objects,

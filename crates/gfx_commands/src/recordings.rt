@@ -1,5 +1,5 @@
 //! What is recorded in all command buffers.
-ghost use Rattle.std.specs.Prelude.{flat_map, ◌≡◌, ℕ, ◌+◌, ◌≤◌, ◌==◌, ◌&&◌, ◌++◌, ◌∷◌, [], List, length, sum_by, slice_get, option_map, Some, IsTrue, IsNone, IfSome, OnOk, OnErr, true, if◌then◌else◌};
+ghost use Rattle.std.specs.Prelude.{flat_map, filter, ◌≡◌, ℕ, ◌+◌, ◌≤◌, ◌==◌, ◌&&◌, ◌++◌, ◌∷◌, [], List, length, sum_by, slice_get, option_map, Some, IsTrue, IsNone, IfSome, OnOk, OnErr, true, if◌then◌else◌};
 ghost use Rattle.std.specs.List.{AllByRecursion};
 ghost use Rattle.gfx_model.specs.Events.{event_of_call};
 ghost use Rattle.gfx_model.specs.Spelling.{HasSpelling, spelling};
@@ -8,7 +8,7 @@ ghost use Rattle.gfx_model.specs.Steps.{resources_of};
 ghost use Rattle.gfx_model.specs.Views.{commands_in, bytes_in};
 ghost use Rattle.gfx_model.specs.Checks.{is_recording, is_distinct};
 ghost use Rattle.gfx_objects.specs.Objects.{answers};
-ghost use Rattle.gfx_ops.specs.Operations.{ops_of_command};
+ghost use Rattle.gfx_ops.specs.Operations.{ops_of_command, changes_bytes, listed};
 ghost use Rattle.gfx_commands.specs.Runnable.{IsRunnable};
 ghost use Rattle.gfx_commands.specs.Recorded.{event_in, IsRecorded};
 ghost use Rattle.gfx_commands.specs.Recording.{state_of, names};
@@ -184,11 +184,44 @@ impl Recordings {
         ensures ok { OnOk result (ops.new ≡ ops.old ++ flat_map (ops_of_command (answers objects.now)) (buffers self.now cb).commands) }
         ensures err { OnErr result (ops.new ≡ ops.old) }
     {
+        self.append_ops(cb, objects, true, ops)
+    }
+
+    /// The same without the layouts: what the commands of a buffer do to bytes.
+    pub fn expand_bytes(
+        &self,
+        cb: u64,
+        objects: &Objects,
+        ops: &mut OpList,
+    ) -> Result<(), WantMemory>
+        requires { AllByRecursion (IsRunnable (answers objects.now)) (buffers self.now cb).commands }
+        ensures ok { OnOk result (ops.new ≡ ops.old ++ filter changes_bytes (flat_map (ops_of_command (answers objects.now)) (buffers self.now cb).commands)) }
+        ensures err { OnErr result (ops.new ≡ ops.old) }
+    {
+        self.append_ops(cb, objects, false, ops)
+    }
+
+    // Appends what the commands of a buffer do, with the layouts that they set or without. For want of memory the list is
+    // as it was.
+    fn append_ops(
+        &self,
+        cb: u64,
+        objects: &Objects,
+        with_layouts: bool,
+        ops: &mut OpList,
+    ) -> Result<(), WantMemory>
+        requires { AllByRecursion (IsRunnable (answers objects.now)) (buffers self.now cb).commands }
+        ensures ok { OnOk result (ops.new ≡ ops.old ++ listed with_layouts (flat_map (ops_of_command (answers objects.now)) (buffers self.now cb).commands)) }
+        ensures err { OnErr result (ops.new ≡ ops.old) }
+    {
         let Some(row) = self.rows.get(cb) else {
             return Ok(());
         };
         let length = ops.items().len();
-        match row.commands.append_ops(self.alloc, objects, ops) {
+        match row
+            .commands
+            .append_ops(self.alloc, objects, with_layouts, ops)
+        {
             Ok(()) => Ok(()),
             Err(WantMemory) => {
                 ops.cut(length);

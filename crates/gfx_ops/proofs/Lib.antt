@@ -2,3 +2,4 @@ pub mod Changes
 pub mod Appending
 pub mod Bounds
 pub mod Said
+pub mod Listed

@@ -1,5 +1,5 @@
 -- What a command does, as operations of the device: a region of several rows is one copy.
-use Rattle.std.specs.Prelude.{ℕ, ◌+◌, ◌*◌, List, [], ◌∷◌, map, Option}
+use Rattle.std.specs.Prelude.{ℕ, ◌+◌, ◌*◌, Bool, true, false, ◌||◌, List, [], ◌∷◌, map, filter, Option}
 use Rattle.std.specs.Option.{option_map_or}
 use Rattle.gfx_types.specs.declared.lists.Barrier.{Barrier}
 use Rattle.gfx_types.specs.declared.lists.BufferRegion.{BufferRegion}
@@ -59,6 +59,15 @@ download_op image w b r =
     w.place (w.offset + texel_in image r.x r.y) (image.width * image.texel)
     (r.width * image.texel) r.height
 
+-- an operation changes bytes, and no layout
+abbrev pub changes_bytes : Op → Bool
+changes_bytes (op.SetLayout image layout) = false
+changes_bytes _ = true
+
+-- what is asked for of operations: all of them, or those that change bytes
+abbrev pub listed : Bool → List Op → List Op
+listed with_layouts ops = filter (λ o. with_layouts || changes_bytes o) ops
+
 -- what a command does, in order
 unfoldable pub ops_of_command : View → Event → List Op
 ops_of_command v (CmdPipelineBarrier cb barriers) = map barrier_op barriers
@@ -77,3 +86,8 @@ ops_of_command v (CmdCopyImageToBuffer cb source layout target regions) =
 ops_of_command v (CmdClearColorImage cb image layout c0 c1 c2 c3) =
     ops_in (window v image) (λ w. op.Fill w.place w.offset w.length (clear_word (format_at v image) c0 c1 c2 c3) ∷ [])
 ops_of_command v _ = []
+
+-- a command that sets layouts, and changes no bytes
+abbrev pub is_barrier : Event → Bool
+is_barrier (CmdPipelineBarrier cb barriers) = true
+is_barrier _ = false

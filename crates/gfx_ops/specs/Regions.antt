@@ -1,5 +1,5 @@
 -- Which regions, windows and shapes stay within the numbers of a copy.
-use Rattle.std.specs.Prelude.{◌≤◌, ◌^◌}
+use Rattle.std.specs.Prelude.{◌≤◌}
 use Rattle.gfx_types.specs.declared.lists.BufferRegion.{BufferRegion}
 use Rattle.gfx_types.specs.declared.lists.ImageRegion.{ImageRegion}
 use Rattle.gfx_types.specs.declared.lists.MixedRegion.{MixedRegion}

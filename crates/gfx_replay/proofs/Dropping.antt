@@ -1,10 +1,10 @@
 -- Images that are dropped one after another, where they are not live.
-use Rattle.std.proofs.Common.{◌≡◌, ℕ, Bool, true, false, ◌&&◌, ◌||◌, not, cond, if◌then◌else◌, refl, sym, ap, ◌∙◌, List, [], ◌∷◌, ◌++◌, is_some, Option, Some, None, ◌==◌, arith}
+use Rattle.std.proofs.Common.{◌≡◌, ℕ, Bool, true, false, ◌&&◌, ◌||◌, not, if◌then◌else◌, ◌∙◌, List, [], ◌∷◌, ◌++◌, None, ◌==◌, arith}
 use Rattle.std.proofs.lemmas.Bool.Decides.{nat_tests}
 use Rattle.std.proofs.lemmas.List.Folds.{list_any-append}
 use Rattle.gfx_types.specs.declared.op.Place.TheVariants as place
 use Rattle.gfx_model.specs.Checks.{is_among}
-use Rattle.gfx_replay.specs.Maps.{IsSet, IsKept}
+use Rattle.gfx_replay.specs.Maps.{IsSet}
 use Rattle.gfx_replay.specs.Held.{Bytes}
 
 -- those of these images that are not live have nothing now, and every other place what it had

@@ -16,4 +16,5 @@ pub mod Showing
 pub mod Starting
 pub mod Holding
 pub mod Standing
+pub mod Bytewise
 pub mod Taking

@@ -1,7 +1,8 @@
 -- An effect without a fault is taken: its operations lie in the places, and all stands for the history with it.
-use Rattle.std.proofs.Common.{◌≡◌, ℕ, Bool, true, false, ◌&&◌, is_some, cond, refl, sym, ap, ◌∙◌, subst, List, [], ◌∷◌, map, flat_map, length, Option, Some, None, is_none, option_map, ◌==◌}
+use Rattle.std.proofs.Common.{◌≡◌, ℕ, true, ◌&&◌, is_some, cond, refl, sym, ap, ◌∙◌, subst, List, [], ◌∷◌, map, flat_map, length, Option, Some, None, is_none, option_map, ◌==◌}
 use Rattle.std.proofs.Math.Logic.{∥∥₁_elim}
 use Rattle.std.proofs.Props.{props}
+use Rattle.std.specs.Prelude.{filter}
 use Rattle.std.specs.Option.{option_or, IsSomeAnd-prop}
 use Rattle.std.specs.List.{AllByRecursion, AllByRecursion-prop}
 use Rattle.std.proofs.lemmas.Bool.{and_from}
@@ -25,6 +26,7 @@ use Rattle.gfx_model.specs.Effects.{changes_of_op}
 use Rattle.gfx_model.specs.History.{view, is_valid, executed}
 use Rattle.gfx_model.proofs.Steps.{view-event}
 use Rattle.gfx_laws.specs.Lawful.{IsLawful}
+use Rattle.gfx_ops.specs.Operations.{changes_bytes}
 use Rattle.gfx_tracker.specs.Operations.{ops_of, given_by}
 use Rattle.gfx_tracker.specs.Taking.{after_event}
 use Rattle.gfx_tracker.specs.Tracker.{SameObjects}
@@ -41,6 +43,7 @@ use Rattle.gfx_replay.proofs.SizeSteps.{not_live, memory_size, image_bytes}
 use Rattle.gfx_replay.proofs.SizeChanges.{allocated, ended_owned}
 use Rattle.gfx_replay.proofs.EventsWithin.{ops_within}
 use Rattle.gfx_replay.proofs.Showing.{present_shows}
+use Rattle.gfx_replay.proofs.Bytewise.{all_hold, within_bytes}
 use Rattle.gfx_replay.proofs.Holding.{holds_same}
 use Rattle.gfx_replay.proofs.Standing.{IsRun, lawful, run_holds, quiet, updated_stands}
 
@@ -63,14 +66,14 @@ standing_sizes v b h s = λ i at. ((s.places).sizes at ∙ ap (λ u. place_size 
 standing_lawful : (v : View) (b : Bytes) (h : List Event) → Stands v b h → IsLawful v []
 standing_lawful v b h s = subst (λ u. IsLawful u []) (sym s.answers_same) (lawful h s.valid)
 
-pub within_now : (v : View) (b : Bytes) (e : Event) (ops : List Op) (given : List ℕ) → HasStood v b → first_broken v (checks_of e) ≡ None → ops ≡ ops_of v e → given ≡ given_by e →
+pub within_now : (v : View) (b : Bytes) (e : Event) (ops : List Op) (given : List ℕ) → HasStood v b → first_broken v (checks_of e) ≡ None → ops ≡ filter changes_bytes (ops_of v e) → given ≡ given_by e →
     AreAllWithin (sizes_of b) given ops
 within_now v b e ops given stood pass is has =
     ∥∥₁_elim stood (AllByRecursion-prop (IsWithin (sizes_of b) given) (within_prop (sizes_of b) given) ops)
     (λ s.
     subst (λ sizes. AreAllWithin sizes given ops) (sym (standing_sizes v b s.history s.stands))
     (subst (λ bytes. AreAllWithin (place_size v) bytes ops) (sym has)
-    (subst (AreAllWithin (place_size v) (given_by e)) (sym is) (ops_within v (standing_lawful v b s.history s.stands) e pass))))
+    (subst (AreAllWithin (place_size v) (given_by e)) (sym is) (within_bytes (place_size v) (given_by e) (ops_of v e) (ops_within v (standing_lawful v b s.history s.stands) e pass)))))
 
 none_of_size : (o : Option (List ℕ)) → option_map length o ≡ None → o ≡ None
 none_of_size None e = refl
@@ -161,19 +164,19 @@ shows_event h _ b c d run w updated shown is = shows_none d shown is
 -- ---- the effect is taken
 
 pub taken_now : (v w u : View) (b c d : Bytes) (e : Event) (ops : List Op) (given : List ℕ) (shown : Option ShownFrame) → first_broken v (checks_of e) ≡ None → w ≡ after_event v e →
-    ops ≡ ops_of v e → given ≡ given_by e → IsSame (sizes_of b) (sizes_of c) → HoldsMore (flat_map (changes_of_op given) ops) b c → SameObjects u w → AreUpdated u e c d → IsShownOf v e shown →
+    ops ≡ filter changes_bytes (ops_of v e) → given ≡ given_by e → IsSame (sizes_of b) (sizes_of c) → HoldsMore (flat_map (changes_of_op given) ops) b c → SameObjects u w → AreUpdated u e c d → IsShownOf v e shown →
     (h : List Event) → Stands v b h → IsTaken w d h e shown
 taken_now v w u b c d e ops given shown pass next is has same ran objects updated shows h s =
     let passes_h : first_broken (view h) (checks_of e) ≡ None = ap (λ x. first_broken x (checks_of e)) (sym s.answers_same) ∙ pass in
     let after_h : w ≡ view (e ∷ h) = next ∙ ap (λ x. after_event x e) s.answers_same ∙ sym (view-event e h) in
-    let changes_h : flat_map (changes_of_op given) ops ≡ flat_map (changes_of_op (given_by e)) (ops_of (view h) e) =
-    ap (λ bytes. flat_map (changes_of_op bytes) ops) has ∙ ap (flat_map (changes_of_op (given_by e))) (is ∙ ap (λ x. ops_of x e) s.answers_same) in
+    let changes_h : flat_map (changes_of_op given) ops ≡ flat_map (changes_of_op (given_by e)) (filter changes_bytes (ops_of (view h) e)) =
+    ap (λ bytes. flat_map (changes_of_op bytes) ops) has ∙ ap (flat_map (changes_of_op (given_by e))) (is ∙ ap (λ x. filter changes_bytes (ops_of x e)) s.answers_same) in
     let run : IsRun h e b c = record {
       valid = s.valid;
       passes = passes_h;
       before = s.places;
       sizes = same;
-      ran = subst (λ cs. HoldsMore cs b c) changes_h ran;
+      ran = all_hold (given_by e) (ops_of (view h) e) b c (subst (λ cs. HoldsMore cs b c) changes_h ran);
     } in
     let updated_w : AreUpdated (view (e ∷ h)) e c d = subst (λ x. AreUpdated x e c d) after_h (updated_same u w objects e c d updated) in
     record {

@@ -26,7 +26,7 @@ use Rattle.gfx_model.specs.Effects.{fill_size}
 use Rattle.gfx_model.specs.Covers.{is_fetched}
 use Rattle.gfx_model.proofs.Covered.{unless_none}
 use Rattle.gfx_model.proofs.Lists.{all_along, all_map}
-use Rattle.gfx_laws.specs.Lawful.{LawfulObjects, command_checks, Passes, CommandPasses}
+use Rattle.gfx_laws.specs.Lawful.{LawfulObjects, Passes, CommandPasses}
 use Rattle.gfx_laws.proofs.Lists.{all_behind, all_from_flat, all_into_map}
 use Rattle.gfx_laws.proofs.Windows.{size_of_image}
 use Rattle.gfx_ops.specs.Operations.{ops_of_command, ops_in, ops_between, shape_of, texel_in, barrier_op, buffer_op, image_op, upload_op, download_op}

@@ -134,7 +134,8 @@ fn take(
     let shown = shown_frame(alloc, tracker, effect)?;
     let ending = ending_images(alloc, tracker.objects(), effect)?;
     let mut ops = OpList::of(Vec::new(alloc));
-    tracker.take(effect, &mut ops)?;
+    tracker.expand_bytes(effect, &mut ops)?;
+    tracker.take(effect)?;
     places.run_all(&ops, given_bytes(effect))?;
     update(places, tracker.objects(), effect, &ending)?;
     Ok(shown)

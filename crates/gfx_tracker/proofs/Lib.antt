@@ -23,6 +23,7 @@ pub mod Operations
 pub mod LawfulEvents
 pub mod Reordered
 pub mod Submitting
+pub mod Leaving
 pub mod Operated
 pub mod Runnable
 pub mod Binding

@@ -1,39 +1,31 @@
--- The operations of a submit make its changes.
-use Rattle.std.proofs.Common.{◌≡◌, ℕ, ◌==◌, Bool, true, false, List, [], ◌∷◌, ◌++◌, map, refl, ap, sym, subst, ◌∙◌, append_assoc, append-nil, if◌then◌else◌, zero, suc, ◌+◌, ◌-◌, ◌<◌, length, take, drop, get_or, arith}
+-- What the turns of a submit do, and the answers after it.
+use Rattle.std.proofs.Common.{◌≡◌, ℕ, ◌==◌, Bool, true, false, List, [], ◌∷◌, ◌++◌, map, refl, ap, sym, ◌∙◌, append_assoc, append-nil, if◌then◌else◌, zero, suc, ◌+◌, ◌<◌, length, take, get_or, arith}
 use Rattle.std.specs.Prelude.{fold, flat_map}
-use Rattle.std.specs.List.{AllByRecursion, AllByRecursion-prop}
-use Rattle.std.proofs.Props.{props}
-use Rattle.std.proofs.Math.Logic.{∥∥₁_elim}
-use Rattle.std.proofs.Math.Seq.{drop-append_seam}
-use Rattle.std.proofs.lemmas.List.{take_all, length-append, map-append}
+use Rattle.std.proofs.lemmas.List.{map-append}
 use Rattle.std.proofs.lemmas.Grind.{flat_map-append}
 use Rattle.gfx_types.specs.declared.lists.Submit.{Submit}
-use Rattle.gfx_types.specs.declared.op.Op.{Op}
-use Rattle.gfx_types.specs.declared.op.Op.TheVariants as op
 use Rattle.gfx_model.specs.Events.{Event}
 use Rattle.gfx_model.specs.Events.Event.{CreateInstance, QueueSubmit}
-use Rattle.gfx_model.specs.Steps.{kind_of, kind_number}
-use Rattle.gfx_model.specs.Steps.Step.{taken, executed, changes}
-use Rattle.gfx_model.specs.Questions.{passes}
+use Rattle.gfx_model.specs.Steps.Step.{taken, changes}
+use Rattle.gfx_model.specs.Questions.{Buffer}
 use Rattle.gfx_model.specs.Views.{View}
-use Rattle.gfx_model.specs.Checks.{Turn, turns_of, turns_of_submit}
+use Rattle.gfx_model.specs.Checks.{Turn, layouts_after, turns_of, turns_of_submit}
 use Rattle.gfx_model.specs.Checks.Turn.{wait, execute, signal}
-use Rattle.gfx_model.specs.Effects.{effect_of, steps_of_turn, changes_of_buffer, changes_of_op, signals_any}
+use Rattle.gfx_model.specs.Layouts.{asked_in, layouts_by}
+use Rattle.gfx_model.specs.Effects.{effect_of, changes_of_buffer, signals_any}
 use Rattle.gfx_model.specs.After.{after}
-use Rattle.gfx_model.proofs.Lists.{all_along}
-use Rattle.gfx_laws.specs.Lawful.{base, IsLawful}
-use Rattle.gfx_laws.proofs.Lists.{all_before, all_from_flat, all_into_flat}
-use Rattle.gfx_laws.proofs.Ready.{ReadyToChange}
-use Rattle.gfx_laws.proofs.ReadyLists.{IsCalm}
-use Rattle.gfx_ops.specs.Operations.{ops_of_command}
-use Rattle.gfx_ops.proofs.Changes.{operations_are_changes}
+use Rattle.gfx_laws.specs.Lawful.{base}
+use Rattle.gfx_laws.proofs.Lists.{all_into_flat}
+use Rattle.gfx_ops.specs.Operations.{ops_of_command, listed}
+use Rattle.gfx_ops.proofs.Listed.{listed_flat}
+use Rattle.gfx_commands.proofs.Index.{layouts_after-append}
 use Rattle.gfx_commands.proofs.Running.{flat_map-map}
-use Rattle.gfx_tracker.specs.Submitted.{own_step, SetsLive}
+use Rattle.gfx_tracker.specs.Submitted.{own_step, SetLayoutsOfLive}
 use Rattle.gfx_tracker.specs.Operations.{ops_of_turn}
 use Rattle.gfx_tracker.specs.Taking.{after_event}
 use Rattle.gfx_tracker.proofs.Next.{fold-append}
-use Rattle.gfx_tracker.proofs.Reordered.{turn_changes, reordered, fence_step}
-use Rattle.gfx_tracker.proofs.Presented.{all_from_map}
+use Rattle.gfx_tracker.proofs.Reordered.{turn_changes, turns_first, reordered, fence_step}
+use Rattle.gfx_tracker.proofs.Leaving.{SubmitsSetLive, buffers_leave, live_along}
 
 -- ---- lists of lists
 
@@ -41,7 +33,7 @@ flat_along : {X Y : Type 0} (f g : X → List Y) → ((x : X) → f x ≡ g x) �
 flat_along f g each [] = refl
 flat_along f g each (x ∷ xs) = ap (λ ys. ys ++ flat_map f xs) (each x) ∙ ap (λ ys. g x ++ ys) (flat_along f g each xs)
 
-flat_flat : {X Y Z : Type 0} (f : Y → List Z) (g : X → List Y) (h : X → List Z) → ((x : X) → flat_map f (g x) ≡ h x) → (xs : List X) → flat_map f (flat_map g xs) ≡ flat_map h xs
+pub flat_flat : {X Y Z : Type 0} (f : Y → List Z) (g : X → List Y) (h : X → List Z) → ((x : X) → flat_map f (g x) ≡ h x) → (xs : List X) → flat_map f (flat_map g xs) ≡ flat_map h xs
 flat_flat f g h each [] = refl
 flat_flat f g h each (x ∷ xs) =
     flat_map-append f (g x) (flat_map g xs) ∙ ap (λ zs. zs ++ flat_map f (flat_map g xs)) (each x) ∙ ap (λ zs. h x ++ zs) (flat_flat f g h each xs)
@@ -57,13 +49,24 @@ flat_next f old xs i d below =
     append_assoc old (flat_map f (take i xs)) (f (get_or xs i d)) ∙ ap (λ ys. old ++ ys) (flat_take f xs i d below)
     ∙ ap (λ n. old ++ flat_map f (take n xs)) (let e : suc i ≡ i + 1 = omega arith in e)
 
--- what was appended
-pub appended_tail : {X : Type 0} (old before all now more : List X) → before ≡ old → now ≡ all → all ≡ old ++ more → take (length now - length before) (drop (length before) now) ≡ more
-appended_tail old before all now more e d grown =
-    ap (λ xs. take (length now - length xs) (drop (length xs) now)) e
-    ∙ ap (λ xs. take (length xs - length old) (drop (length old) xs)) (d ∙ grown)
-    ∙ ap (take (length (old ++ more) - length old)) (drop-append_seam old more)
-    ∙ take_all (length (old ++ more) - length old) more (let n = length-append old more in omega (arith, n))
+-- ---- the layouts after command buffers
+
+-- after one command buffer more
+pub layouts_next : (b : ℕ → Buffer) (f : ℕ → ℕ) (cbs : List ℕ) (i d : ℕ) → i < length cbs →
+    layouts_after (layouts_by b f (take i cbs)) (asked_in b (get_or cbs i d)) ≡ layouts_by b f (take (i + 1) cbs)
+layouts_next b f cbs i d below =
+    sym (layouts_after-append f (flat_map (asked_in b) (take i cbs)) (asked_in b (get_or cbs i d)))
+    ∙ ap (layouts_after f) (flat_next (asked_in b) [] cbs i d below)
+
+-- after those of one submit more
+pub layouts_more : (b : ℕ → Buffer) (f : ℕ → ℕ) (submits : List Submit) (i : ℕ) (s : Submit) → i < length submits → s ≡ get_or submits i s →
+    layouts_by b (layouts_by b f (flat_map (λ (s : Submit). s.cbs) (take i submits))) s.cbs ≡ layouts_by b f (flat_map (λ (s : Submit). s.cbs) (take (i + 1) submits))
+layouts_more b f submits i s below is =
+    let before = flat_map (λ (s : Submit). s.cbs) (take i submits) in
+    sym (layouts_after-append f (flat_map (asked_in b) before) (flat_map (asked_in b) s.cbs))
+    ∙ ap (layouts_after f) (sym (flat_map-append (asked_in b) before s.cbs))
+    ∙ ap (λ (t : Submit). layouts_by b f (before ++ t.cbs)) is
+    ∙ ap (layouts_by b f) (flat_next (λ (s : Submit). s.cbs) [] submits i s below)
 
 -- ---- the operations of commands read objects and bindings alone
 
@@ -75,99 +78,79 @@ ops_base v _ = refl
 pub ops_same : (v w : View) → base v ≡ base w → (cs : List Event) → flat_map (ops_of_command w) cs ≡ flat_map (ops_of_command v) cs
 ops_same v w same cs = flat_along (ops_of_command w) (ops_of_command v) (λ c. sym (ops_base w c) ∙ sym (ap (λ u. ops_of_command u c) same) ∙ ops_base v c) cs
 
--- ---- the operations of turns
+-- ---- the turns of submits
 
--- what a buffer does
-abbrev pub buffer_ops : View → ℕ → List Op
-buffer_ops v cb = ops_of_turn v (execute cb)
+-- what turns make that only execute command buffers
+module _ {X : Type 0} (f : Turn → List X) (waits : (x : ℕ) → f (wait x) ≡ []) (signals : (x : ℕ) → f (signal x) ≡ []) where
+  none_made : (make : ℕ → Turn) → ((x : ℕ) → f (make x) ≡ []) → (xs : List ℕ) → flat_map f (map make xs) ≡ []
+  none_made make none [] = refl
+  none_made make none (x ∷ xs) = ap (λ zs. zs ++ flat_map f (map make xs)) (none x) ∙ none_made make none xs
 
-waits_do : (v : View) (make : ℕ → Turn) → ((x : ℕ) → ops_of_turn v (make x) ≡ []) → (xs : List ℕ) → flat_map (ops_of_turn v) (map make xs) ≡ []
-waits_do v make none [] = refl
-waits_do v make none (x ∷ xs) = ap (λ zs. zs ++ flat_map (ops_of_turn v) (map make xs)) (none x) ∙ waits_do v make none xs
+  submit_makes : (s : Submit) → flat_map f (turns_of_submit s) ≡ flat_map (λ cb. f (execute cb)) s.cbs
+  submit_makes s =
+      flat_map-append f (map wait s.waits ++ map execute s.cbs) (map signal s.signals)
+      ∙ ap (λ zs. flat_map f (map wait s.waits ++ map execute s.cbs) ++ zs) (none_made signal signals s.signals)
+      ∙ append-nil (flat_map f (map wait s.waits ++ map execute s.cbs))
+      ∙ flat_map-append f (map wait s.waits) (map execute s.cbs)
+      ∙ ap (λ zs. zs ++ flat_map f (map execute s.cbs)) (none_made wait waits s.waits)
+      ∙ flat_map-map f execute s.cbs
 
-submit_does : (v : View) (s : Submit) → flat_map (ops_of_turn v) (turns_of_submit s) ≡ flat_map (buffer_ops v) s.cbs
-submit_does v s =
-    flat_map-append (ops_of_turn v) (map wait s.waits ++ map execute s.cbs) (map signal s.signals)
-    ∙ ap (λ zs. flat_map (ops_of_turn v) (map wait s.waits ++ map execute s.cbs) ++ zs) (waits_do v signal (λ x. refl) s.signals)
-    ∙ append-nil (flat_map (ops_of_turn v) (map wait s.waits ++ map execute s.cbs))
-    ∙ flat_map-append (ops_of_turn v) (map wait s.waits) (map execute s.cbs)
-    ∙ ap (λ zs. zs ++ flat_map (ops_of_turn v) (map execute s.cbs)) (waits_do v wait (λ x. refl) s.waits)
-    ∙ flat_map-map (ops_of_turn v) execute s.cbs
+  -- what the command buffers of submits make is what their turns make
+  pub submits_make : (submits : List Submit) (fence : ℕ) → flat_map (λ (s : Submit). flat_map (λ cb. f (execute cb)) s.cbs) submits ≡ flat_map f (turns_of submits fence)
+  submits_make submits fence =
+      sym (flat_map-append f (flat_map turns_of_submit submits) (if fence == 0 then [] else signal fence ∷ [])
+      ∙ ap (λ zs. flat_map f (flat_map turns_of_submit submits) ++ zs) (by (fence == 0))
+      ∙ append-nil (flat_map f (flat_map turns_of_submit submits))
+      ∙ flat_flat f turns_of_submit (λ s. flat_map (λ cb. f (execute cb)) s.cbs) submit_makes submits)
+    where
+      by : (t : Bool) → flat_map f (if t then [] else signal fence ∷ []) ≡ []
+      by true = refl
+      by false = append-nil (f (signal fence)) ∙ signals fence
 
--- what the buffers of submits do is what their turns do
-pub submits_do : (v : View) (submits : List Submit) (fence : ℕ) → flat_map (λ (s : Submit). flat_map (buffer_ops v) s.cbs) submits ≡ flat_map (ops_of_turn v) (turns_of submits fence)
-submits_do v submits fence =
-    sym (flat_map-append (ops_of_turn v) (flat_map turns_of_submit submits) (if fence == 0 then [] else signal fence ∷ [])
-    ∙ ap (λ zs. flat_map (ops_of_turn v) (flat_map turns_of_submit submits) ++ zs) (by (fence == 0))
-    ∙ append-nil (flat_map (ops_of_turn v) (flat_map turns_of_submit submits))
-    ∙ flat_flat (ops_of_turn v) turns_of_submit (λ s. flat_map (buffer_ops v) s.cbs) (submit_does v) submits)
-  where
-    by : (t : Bool) → flat_map (ops_of_turn v) (if t then [] else signal fence ∷ []) ≡ []
-    by true = refl
-    by false = refl
-
--- ---- they make the changes of the turns
-
-turn_makes : (v : View) (given : List ℕ) (t : Turn) → flat_map (changes_of_op given) (ops_of_turn v t) ≡ turn_changes v t
-turn_makes v given (execute cb) = flat_flat (changes_of_op given) (ops_of_command v) _ (λ c. operations_are_changes v c given) (v.buffer cb).commands
-turn_makes v given (wait s) = refl
-turn_makes v given (signal s) = refl
-
-pub turns_make : (v : View) (given : List ℕ) (ts : List Turn) → flat_map (changes_of_op given) (flat_map (ops_of_turn v) ts) ≡ flat_map (turn_changes v) ts
-turns_make v given ts = flat_flat (changes_of_op given) (ops_of_turn v) (turn_changes v) (turn_makes v given) ts
-
--- ---- the layouts that they set are those of live images
-
-op_live : (v : View) (o : Op) → AllByRecursion (ReadyToChange (base v)) (changes_of_op [] o) → SetsLive v o
-op_live v (op.SetLayout image layout) a = a.0.2
-op_live v _ a = tt
-
-pub sets_live_along : (v w : View) (o : Op) → ((x : ℕ) → w.live x ≡ v.live x) → SetsLive v o → SetsLive w o
-sets_live_along v w (op.SetLayout image layout) same there = ap (λ o. passes (λ o. kind_number (kind_of o.detail) == 7) o) (same image) ∙ there
-sets_live_along v w _ same there = tt
-
-turn_live : (v : View) (t : Turn) → AllByRecursion (IsCalm (base v)) (steps_of_turn v t) → AllByRecursion (SetsLive v) (ops_of_turn v t)
-turn_live v (wait s) a = tt
-turn_live v (signal s) a = tt
-turn_live v (execute cb) a =
-    let calm : AllByRecursion (IsCalm (base v)) (map changes (changes_of_buffer v cb)) = all_before (IsCalm (base v)) (map changes (changes_of_buffer v cb)) (executed cb ∷ []) a in
-    let ready : AllByRecursion (ReadyToChange (base v)) (changes_of_buffer v cb) = all_from_map (IsCalm (base v)) changes (changes_of_buffer v cb) calm in
-    all_along (λ o. AllByRecursion (ReadyToChange (base v)) (changes_of_op [] o)) (SetsLive v) (op_live v) (buffer_ops v cb)
-    (all_from_flat (ReadyToChange (base v)) (changes_of_op []) (buffer_ops v cb)
-    (subst (AllByRecursion (ReadyToChange (base v))) (sym (turn_makes v [] (execute cb))) ready))
-
-turns_live_layouts : (v : View) (ts : List Turn) → AllByRecursion (IsCalm (base v)) (flat_map (steps_of_turn v) ts) → AllByRecursion (SetsLive v) (flat_map (ops_of_turn v) ts)
-turns_live_layouts v ts a =
-    all_into_flat (SetsLive v) (ops_of_turn v) ts
-    (all_along (λ t. AllByRecursion (IsCalm (base v)) (steps_of_turn v t)) (λ t. AllByRecursion (SetsLive v) (ops_of_turn v t)) (turn_live v) ts
-    (all_from_flat (IsCalm (base v)) (steps_of_turn v) ts a))
-
-sets_live_prop : (v : View) (o : Op) → IsProp (SetsLive v o)
-sets_live_prop v (op.SetLayout image layout) = hlevel props
-sets_live_prop v (op.Put at offset bytes) = hlevel props
-sets_live_prop v (op.PutGiven at offset) = hlevel props
-sets_live_prop v (op.Fill at offset n word) = hlevel props
-sets_live_prop v (op.Copy to to_offset to_step source source_offset source_step n rows) = hlevel props
-
-pub layouts_of_live : (v : View) (ts : List Turn) → ∥ IsLawful v [] ∥₁ → (IsLawful v [] → AllByRecursion (IsCalm (base v)) (flat_map (steps_of_turn v) ts)) →
-    AllByRecursion (SetsLive v) (flat_map (ops_of_turn v) ts)
-layouts_of_live v ts lawful calm =
-    ∥∥₁_elim lawful (AllByRecursion-prop (SetsLive v) (sets_live_prop v) (flat_map (ops_of_turn v) ts)) (λ h. turns_live_layouts v ts (calm h))
+-- what is asked for of the operations of command buffers is that of their turns
+pub submits_listed : (v : View) (with_layouts : Bool) (submits : List Submit) (fence : ℕ) →
+    flat_map (λ (s : Submit). flat_map (λ cb. listed with_layouts (ops_of_turn v (execute cb))) s.cbs) submits ≡ listed with_layouts (flat_map (ops_of_turn v) (turns_of submits fence))
+submits_listed v with_layouts submits fence =
+    submits_make (λ t. listed with_layouts (ops_of_turn v t)) (λ x. refl) (λ x. refl) submits fence ∙ listed_flat with_layouts (ops_of_turn v) (turns_of submits fence)
 
 -- ---- the answers after all
 
--- the answers after a submit, where its turns are taken first and what its operations change comes behind
-pub after_submit : (v : View) (queue : ℕ) (submits : List Submit) (fence : ℕ) →
-    fold after (fold after (fold after (after v taken) (map own_step (flat_map turns_of_submit submits))) (signals_any fence))
-    (map changes (flat_map (changes_of_op []) (flat_map (ops_of_turn v) (turns_of submits fence)))) ≡ after_event v (QueueSubmit queue submits fence)
-unfolding effect_of
-after_submit v queue submits fence =
+-- the changes of the command buffers of submits are those of their turns
+changes_by_turns : (v : View) (submits : List Submit) (fence : ℕ) →
+    flat_map (changes_of_buffer v) (flat_map (λ (s : Submit). s.cbs) submits) ≡ flat_map (turn_changes v) (turns_of submits fence)
+changes_by_turns v submits fence =
+    flat_flat (changes_of_buffer v) (λ (s : Submit). s.cbs) (λ s. flat_map (changes_of_buffer v) s.cbs) (λ s. refl) submits
+    ∙ submits_make (turn_changes v) (λ x. refl) (λ x. refl) submits fence
+
+taken_began : (v : View) → (after v taken).is_empty ≡ false
+unfolding after
+taken_began v = refl
+
+-- the layouts that the command buffers leave are those after the changes of the turns
+layouts_by_turns : (v : View) (submits : List Submit) (fence : ℕ) → SubmitsSetLive v submits →
+    record (after v taken) { layout = layouts_by (after v taken).buffer (after v taken).layout (flat_map (λ (s : Submit). s.cbs) submits) }
+    ≡ fold after (after v taken) (map changes (flat_map (turn_changes v) (turns_of submits fence)))
+unfolding after
+layouts_by_turns v submits fence live =
     let w = after v taken in
+    sym (ap (λ cs. fold after w (map changes cs)) (sym (changes_by_turns v submits fence))
+    ∙ buffers_leave v w (flat_map (λ (s : Submit). s.cbs) submits) (taken_began v)
+    (all_into_flat (SetLayoutsOfLive w) (λ (s : Submit). s.cbs) submits (live_along v submits live)))
+
+-- the answers after a submit: the layouts of its command buffers come first, and its turns behind them
+pub after_submit : (v : View) (queue : ℕ) (submits : List Submit) (fence : ℕ) → SubmitsSetLive v submits →
+    fold after (fold after (record (after v taken) { layout = layouts_by (after v taken).buffer (after v taken).layout (flat_map (λ (s : Submit). s.cbs) submits) })
+    (map own_step (flat_map turns_of_submit submits))) (signals_any fence) ≡ after_event v (QueueSubmit queue submits fence)
+unfolding effect_of
+after_submit v queue submits fence live =
+    let w = after v taken in
+    let cs = flat_map (turn_changes v) (turns_of submits fence) in
+    let u = fold after w (map changes cs) in
     let front = map own_step (flat_map turns_of_submit submits) in
     let tail : List Turn = if fence == 0 then [] else signal fence ∷ [] in
-    ap (λ (u : View). fold after u (map changes (flat_map (changes_of_op []) (flat_map (ops_of_turn v) (turns_of submits fence)))))
-    (sym (fold-append after w front (signals_any fence))
-    ∙ ap (λ ss. fold after w (front ++ ss)) (sym (fence_step fence))
-    ∙ ap (fold after w) (sym (map-append own_step (flat_map turns_of_submit submits) tail)))
-    ∙ ap (λ cs. fold after (fold after w (map own_step (turns_of submits fence))) (map changes cs)) (turns_make v [] (turns_of submits fence))
+    ap (λ u. fold after (fold after u front) (signals_any fence)) (layouts_by_turns v submits fence live)
+    ∙ sym (fold-append after u front (signals_any fence))
+    ∙ ap (λ ss. fold after u (front ++ ss)) (sym (fence_step fence))
+    ∙ ap (fold after u) (sym (map-append own_step (flat_map turns_of_submit submits) tail))
+    ∙ turns_first w cs (turns_of submits fence)
     ∙ sym (reordered v w (turns_of submits fence))

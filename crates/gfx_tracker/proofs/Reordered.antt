@@ -1,19 +1,16 @@
 -- What the commands of submits change may be done after all else.
 use Rattle.std.proofs.Common.{◌≡◌, ℕ, ◌==◌, Bool, true, false, List, [], ◌∷◌, ◌++◌, map, refl, ap, sym, ◌∙◌, if◌then◌else◌}
 use Rattle.std.specs.Prelude.{fold, flat_map}
-use Rattle.std.specs.List.{range_with_len}
 use Rattle.std.proofs.lemmas.List.{map-append}
 use Rattle.std.proofs.lemmas.Simd.{map-map}
 use Rattle.gfx_types.specs.declared.lists.Submit.{Submit}
-use Rattle.gfx_types.specs.declared.op.Op.{Op}
-use Rattle.gfx_types.specs.declared.op.Op.TheVariants as op
 use Rattle.gfx_model.specs.Steps.{Change}
 use Rattle.gfx_model.specs.Steps.Change.{put, fill, copy, set_layout}
-use Rattle.gfx_model.specs.Steps.Step.{taken, executed, signals, unsignals, changes}
+use Rattle.gfx_model.specs.Steps.Step.{executed, signals, unsignals, changes}
 use Rattle.gfx_model.specs.Views.{View}
 use Rattle.gfx_model.specs.Checks.{Turn, turns_of_submit}
 use Rattle.gfx_model.specs.Checks.Turn.{wait, execute, signal}
-use Rattle.gfx_model.specs.Effects.{steps_of_turn, changes_of_buffer, changes_of_op, signals_any}
+use Rattle.gfx_model.specs.Effects.{steps_of_turn, changes_of_buffer, signals_any}
 use Rattle.gfx_model.specs.After.{after}
 use Rattle.gfx_tracker.specs.Submitted.{own_step}
 use Rattle.gfx_tracker.proofs.Next.{fold-append}
@@ -41,7 +38,7 @@ changes_behind : (w : View) (cs : List Change) (t : Turn) → after (fold after 
 changes_behind w [] t = refl
 changes_behind w (c ∷ cs) t = changes_behind (after w (changes c)) cs t ∙ ap (λ u. fold after u (map changes cs)) (change_behind w c t)
 
-turns_first : (w : View) (cs : List Change) (ts : List Turn) → fold after (fold after w (map changes cs)) (map own_step ts) ≡ fold after (fold after w (map own_step ts)) (map changes cs)
+pub turns_first : (w : View) (cs : List Change) (ts : List Turn) → fold after (fold after w (map changes cs)) (map own_step ts) ≡ fold after (fold after w (map own_step ts)) (map changes cs)
 turns_first w cs [] = refl
 turns_first w cs (t ∷ ts) = ap (λ u. fold after u (map own_step ts)) (changes_behind w cs t) ∙ turns_first (after w (own_step t)) cs ts
 
@@ -78,66 +75,6 @@ own_live v (signal s) x = refl
 pub turns_live : (v : View) (ts : List Turn) (x : ℕ) → (fold after v (map own_step ts)).live x ≡ v.live x
 turns_live v [] x = refl
 turns_live v (t ∷ ts) x = turns_live (after v (own_step t)) ts x ∙ own_live v t x
-
-own_began : (v : View) (t : Turn) → (after v (own_step t)).is_empty ≡ false
-unfolding after
-own_began v (wait s) = refl
-own_began v (execute cb) = refl
-own_began v (signal s) = refl
-
-pub turns_began : (v : View) (ts : List Turn) → v.is_empty ≡ false → (fold after v (map own_step ts)).is_empty ≡ false
-turns_began v [] e = e
-turns_began v (t ∷ ts) e = turns_began (after v (own_step t)) ts (own_began v t)
-
-began_by : (v : View) → (after v taken).is_empty ≡ false
-unfolding after
-began_by v = refl
-
-pub began_taken : (v w : View) → w ≡ after v taken → w.is_empty ≡ false
-began_taken v w is = ap (λ (w : View). w.is_empty) is ∙ began_by v
-
-pub signals_began : (v : View) (id : ℕ) → v.is_empty ≡ false → (fold after v (signals_any id)).is_empty ≡ false
-unfolding after
-signals_began v id e = by (id == 0)
-  where
-    by : (t : Bool) → (fold after v (if t then [] else signals id ∷ [])).is_empty ≡ false
-    by true = e
-    by false = refl
-
-change_live : (v : View) (c : Change) (x : ℕ) → (after v (changes c)).live x ≡ v.live x
-unfolding after
-change_live v c x = refl
-
-pub changes_live : (v : View) (cs : List Change) (x : ℕ) → (fold after v (map changes cs)).live x ≡ v.live x
-changes_live v [] x = refl
-changes_live v (c ∷ cs) x = changes_live (after v (changes c)) cs x ∙ change_live v c x
-
-change_began : (v : View) (c : Change) → (after v (changes c)).is_empty ≡ false
-unfolding after
-change_began v c = refl
-
-pub changes_began : (v : View) (cs : List Change) → v.is_empty ≡ false → (fold after v (map changes cs)).is_empty ≡ false
-changes_began v [] e = e
-changes_began v (c ∷ cs) e = changes_began (after v (changes c)) cs (change_began v c)
-
--- ---- changes that no answer tells
-
--- v, in which an effect was taken
-same_began : (v : View) → v.is_empty ≡ false → record v { is_empty = false } ≡ v
-same_began v e = ap (λ b. record v { is_empty = b }) (sym e)
-
-copies_quiet : (v : View) (f : ℕ → Change) → ((k : ℕ) → after v (changes (f k)) ≡ v) → (ks : List ℕ) → fold after v (map changes (map f ks)) ≡ v
-copies_quiet v f each [] = refl
-copies_quiet v f each (k ∷ ks) = ap (λ u. fold after u (map changes (map f ks))) (each k) ∙ copies_quiet v f each ks
-
--- an operation that sets no layout
-pub op_quiet : (v : View) (o : Op) → v.is_empty ≡ false → ((image layout : ℕ) → o ≡ op.SetLayout image layout → ⊥) → fold after v (map changes (changes_of_op [] o)) ≡ v
-unfolding after
-op_quiet v (op.SetLayout image layout) e other = absurd (other image layout refl)
-op_quiet v (op.Put at offset bytes) e other = same_began v e
-op_quiet v (op.PutGiven at offset) e other = same_began v e
-op_quiet v (op.Fill at offset n word) e other = same_began v e
-op_quiet v (op.Copy to to_offset to_step source source_offset source_step n rows) e other = copies_quiet v _ (λ k. same_began v e) (range_with_len 0 rows)
 
 -- ---- a fence, and the turns of a submit
 

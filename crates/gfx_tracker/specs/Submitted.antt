@@ -2,14 +2,13 @@
 use Rattle.std.specs.Prelude.{◌≡◌, ℕ, true}
 use Rattle.std.specs.List.{AllByRecursion}
 use Rattle.gfx_types.specs.declared.lists.Submit.{Submit}
-use Rattle.gfx_types.specs.declared.names.Kind.TheVariants as kind
-use Rattle.gfx_types.specs.declared.op.Op.{Op}
-use Rattle.gfx_types.specs.declared.op.Op.TheVariants as op
 use Rattle.gfx_model.specs.Steps.{Step}
 use Rattle.gfx_model.specs.Steps.Step.{executed, signals, unsignals}
-use Rattle.gfx_model.specs.Views.{View, is_live}
+use Rattle.gfx_model.specs.Views.{View}
 use Rattle.gfx_model.specs.Checks.{Turn, is_executable}
 use Rattle.gfx_model.specs.Checks.Turn.{wait, execute, signal}
+use Rattle.gfx_model.specs.Layouts.{asked_in}
+use Rattle.gfx_commands.specs.Differing.{SetsLive}
 use Rattle.gfx_tracker.specs.Taking.{HasSignal}
 
 -- the step of a turn, without what the commands of its buffer change
@@ -27,7 +26,6 @@ pub record HasSignals (v : View) (s : Submit) : Type 0 where
   pub waits : AllByRecursion (HasSignal v) s.waits
   pub signals : AllByRecursion (HasSignal v) s.signals
 
--- where an operation sets a layout, it is that of a live image
-abbrev pub SetsLive : View → Op → Type 0
-SetsLive v (op.SetLayout image layout) = is_live v kind.Image image ≡ true
-SetsLive v _ = Unit {0}
+-- each layout that the command buffer sets is that of a live image
+abbrev pub SetLayoutsOfLive : View → ℕ → Type 0
+SetLayoutsOfLive v cb = AllByRecursion (SetsLive v) (asked_in v.buffer cb)

@@ -8,6 +8,7 @@ mod creations;
 mod each;
 mod end;
 mod ends;
+mod expansion;
 mod fences;
 mod markers;
 mod metadata;

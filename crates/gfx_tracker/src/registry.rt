@@ -8,11 +8,17 @@ ghost use Rattle.gfx_model.specs.Views as view;
 ghost use Rattle.gfx_model.specs.After.{after};
 ghost use Rattle.gfx_model.specs.Questions.{passes};
 ghost use Rattle.gfx_model.specs.Limits.{max_live_bytes, max_live_objects};
+ghost use Rattle.std.specs.List.{AllByRecursion};
+ghost use Rattle.gfx_model.specs.Checks.{layouts_after};
+ghost use Rattle.gfx_model.specs.Layouts.{asked_in};
+ghost use Rattle.gfx_commands.specs.Differing.{SetsLive};
+ghost use Rattle.gfx_commands.specs.Recordings.{buffers};
 ghost use Rattle.gfx_table.specs.Groups.{room_in};
 ghost use Rattle.gfx_laws.specs.Lawful.{has_signal};
 ghost use Rattle.gfx_objects.specs.Object.{detail_of, IsNew, is_within};
 ghost use Rattle.gfx_tracker.specs.Registered.{IsRegistered, images_of, with_signal, without_signal, with_images, without_images};
 
+use gfx_commands::Recordings;
 use gfx_objects::{Detail, Objects};
 use gfx_swap::{Swaps, Sync};
 use gfx_types::WantMemory;
@@ -135,6 +141,14 @@ impl Registry {
         ensures { answers_of self.new ≡ after (answers_of self.old) (changes (set_layout image layout)) }
     {
         self.objects.set_layout(image, layout);
+    }
+
+    /// Sets the layouts in which a command buffer leaves images, which have to be live.
+    pub(crate) fn leave_layouts(&mut self, recordings: &Recordings, cb: u64)
+        requires { AllByRecursion (SetsLive (answers_of self.old)) (asked_in (buffers recordings.now) cb) }
+        ensures { answers_of self.new ≡ record (answers_of self.old) { layout = layouts_after (answers_of self.old).layout (asked_in (buffers recordings.now) cb) } }
+    {
+        recordings.leave_layouts(cb, &mut self.objects);
     }
 
     /// Signals a live fence or semaphore.

@@ -1,10 +1,9 @@
 //! All rows together: an effect that breaks no check is taken by its row.
-ghost use Rattle.std.specs.Prelude.{◌≡◌, ◌++◌, OnOk, OnErr};
+ghost use Rattle.std.specs.Prelude.{◌≡◌, OnOk, OnErr};
 ghost use Rattle.gfx_types.specs.declared.effect.Effect.TheVariants as effect;
 ghost use Rattle.gfx_model.specs.Events.{event_of, event_of_call, event_of_meta};
 ghost use Rattle.gfx_tracker.specs.State.{state_answers};
 ghost use Rattle.gfx_tracker.specs.Taking.{after_event, IsNext};
-ghost use Rattle.gfx_tracker.specs.Operations.{ops_of};
 
 use crate::buffers::{
     allocate_command_buffers, begin_command_buffer, end_command_buffer, free_command_buffers,
@@ -30,23 +29,17 @@ use crate::state::State;
 use crate::submits::queue_submit;
 use crate::swapchains::{acquire_next_image, get_swapchain_images};
 use crate::waits::{device_wait_idle, get_fence_status, queue_wait_idle, wait_for_fences};
-use gfx_types::{Call, Effect, Meta, OpList, WantMemory, argument, calls, metas};
+use gfx_types::{Call, Effect, Meta, WantMemory, argument, calls, metas};
 
-/// Takes an effect and appends its operations. For want of memory all is as it was.
-pub(crate) fn take_effect(
-    state: &mut State,
-    effect: &Effect<'_>,
-    ops: &mut OpList,
-) -> Result<(), WantMemory>
+/// Takes an effect. For want of memory all is as it was.
+pub(crate) fn take_effect(state: &mut State, effect: &Effect<'_>) -> Result<(), WantMemory>
     requires { IsNext (state_answers state.old) (event_of effect.now) }
     ensures ok { OnOk result (state_answers state.new ≡ after_event (state_answers state.old) (event_of effect.now)) }
-    ensures ops { OnOk result (ops.new ≡ ops.old ++ ops_of (state_answers state.old) (event_of effect.now)) }
     ensures err { OnErr result (state_answers state.new ≡ state_answers state.old) }
-    ensures none { OnErr result (ops.new ≡ ops.old) }
 {
     match effect {
-        Effect::Call(call) => take_call(state, call, ops),
-        Effect::Meta(meta) => take_meta(state, meta, ops),
+        Effect::Call(call) => take_call(state, call),
+        Effect::Meta(meta) => take_meta(state, meta),
         Effect::Marker { begin, frame } => {
             take_marker(state, *begin, *frame);
             Ok(())
@@ -54,42 +47,29 @@ pub(crate) fn take_effect(
     }
 }
 
-/// A value is taken by its row. Each command is recorded as it is; a submit and the metadata with bytes append
-/// operations.
+/// A value is taken by its row. Each command is recorded as it is.
 macro_rules! taken {
-    (@commands $row:ident($state:expr, $value:expr, $ops:expr; $($mark:ident $field:ident),+)) => {
+    (@commands $row:ident($state:expr, $value:expr; $($mark:ident $field:ident),+)) => {
         record_command($state, $value)
     };
-    (@$section:ident queue_submit($state:expr, $value:expr, $ops:expr; $($mark:ident $field:ident),+)) => {
-        queue_submit($state, $(argument!($mark $field)),+, $ops)
-    };
-    (@metas fill_memory($state:expr, $value:expr, $ops:expr; $($mark:ident $field:ident),+)) => {
-        fill_memory($state, $(argument!($mark $field)),+, $ops)
-    };
-    (@metas init_image($state:expr, $value:expr, $ops:expr; $($mark:ident $field:ident),+)) => {
-        init_image($state, $(argument!($mark $field)),+, $ops)
-    };
-    (@$section:ident $row:ident($state:expr, $value:expr, $ops:expr; $($mark:ident $field:ident),+)) => {
+    (@$section:ident $row:ident($state:expr, $value:expr; $($mark:ident $field:ident),+)) => {
         $row($state, $(argument!($mark $field)),+).end()
     };
-    ($state:expr, $value:expr, $ops:expr, $of:ident, { $($other:tt)* }; $($section:ident { $($id:literal $name:ident $row:ident($($field:ident: $mark:ident),+);)+ })+) => {
+    ($state:expr, $value:expr, $of:ident, { $($other:tt)* }; $($section:ident { $($id:literal $name:ident $row:ident($($field:ident: $mark:ident),+);)+ })+) => {
         match $value {
-            $($($of::$name { $($field),+ } => taken!(@$section $row($state, $value, $ops; $($mark $field),+)),)+)+
+            $($($of::$name { $($field),+ } => taken!(@$section $row($state, $value; $($mark $field),+)),)+)+
             $($other)*
         }
     };
 }
 
-/// Takes a call, and appends the operations of a submit. For want of memory all is as it was.
-#[tactic(auto, using(crate::proofs::Appended::nothing_more), unfolding(crate::specs::Operations::ops_of))]
-fn take_call(state: &mut State, call: &Call<'_>, ops: &mut OpList) -> Result<(), WantMemory>
+/// Takes a call. For want of memory all is as it was.
+fn take_call(state: &mut State, call: &Call<'_>) -> Result<(), WantMemory>
     requires { IsNext (state_answers state.old) (event_of_call call.now) }
     ensures ok { OnOk result (state_answers state.new ≡ after_event (state_answers state.old) (event_of_call call.now)) }
-    ensures ops { OnOk result (ops.new ≡ ops.old ++ ops_of (state_answers state.old) (event_of_call call.now)) }
     ensures err { OnErr result (state_answers state.new ≡ state_answers state.old) }
-    ensures none { OnErr result (ops.new ≡ ops.old) }
 {
-    calls!(taken, state, call, ops, Call, {
+    calls!(taken, state, call, Call, {
         Call::QueuePresentKHR { queue, waits, presents } => {
             queue_present(state, *queue, waits.items(), presents.items());
             Ok(())
@@ -97,16 +77,13 @@ fn take_call(state: &mut State, call: &Call<'_>, ops: &mut OpList) -> Result<(),
     })
 }
 
-/// Takes a metadata, and appends the operations that put its bytes. For want of memory all is as it was.
-#[tactic(auto, using(crate::proofs::Appended::nothing_more), unfolding(crate::specs::Operations::ops_of))]
-fn take_meta(state: &mut State, meta: &Meta<'_>, ops: &mut OpList) -> Result<(), WantMemory>
+/// Takes a metadata. For want of memory all is as it was.
+fn take_meta(state: &mut State, meta: &Meta<'_>) -> Result<(), WantMemory>
     requires { IsNext (state_answers state.old) (event_of_meta meta.now) }
     ensures ok { OnOk result (state_answers state.new ≡ after_event (state_answers state.old) (event_of_meta meta.now)) }
-    ensures ops { OnOk result (ops.new ≡ ops.old ++ ops_of (state_answers state.old) (event_of_meta meta.now)) }
     ensures err { OnErr result (state_answers state.new ≡ state_answers state.old) }
-    ensures none { OnErr result (ops.new ≡ ops.old) }
 {
-    metas!(taken, state, meta, ops, Meta, {})
+    metas!(taken, state, meta, Meta, {})
 }
 
 /// Takes a marker.

@@ -1,19 +1,21 @@
 //! What stands after the effects of a capture: objects, recordings, the next frame and the section.
 ghost use Rattle.std.specs.Prelude.{◌≡◌, ◌+◌, ◌<◌, ◌≤◌, ◌^◌, ◌==◌, ◌&&◌, ◌||◌, [], true, false, None, IsTrue, is_some, length, if◌then◌else◌, OnOk, OnErr};
-ghost use Rattle.std.specs.List.{list_any};
+ghost use Rattle.std.specs.List.{AllByRecursion, list_any};
 ghost use Rattle.gfx_types.specs.declared.names.Kind.TheVariants as kind;
 ghost use Rattle.gfx_model.specs.Steps.Step.{taken, begins_section, ends_section, creates, ends, binds, maps, unmaps, begins, records, finishes, resets, resets_pool, executed, signals, unsignals, acquires, gives_back, changes, presents};
 ghost use Rattle.gfx_model.specs.Steps.Change.{set_layout};
 ghost use Rattle.gfx_model.specs.Events.{event_of_call};
 ghost use Rattle.gfx_model.specs.Spelling.{HasSpelling, spelling};
 ghost use Rattle.gfx_model.specs.Questions.{passes, new_buffer, invalidated};
-ghost use Rattle.gfx_model.specs.Checks.{is_recording};
+ghost use Rattle.gfx_model.specs.Checks.{is_recording, layouts_after};
+ghost use Rattle.gfx_model.specs.Layouts.{asked_in};
 ghost use Rattle.gfx_model.specs.Views as view;
 ghost use Rattle.gfx_model.specs.After.{after, is_gone, buffer_after_end};
 ghost use Rattle.gfx_model.specs.Limits.{max_frame, max_kept_bytes, max_kept_commands};
 ghost use Rattle.gfx_table.specs.Groups.{room_in};
 ghost use Rattle.gfx_objects.specs.Object.{detail_of, IsNew};
 ghost use Rattle.gfx_objects.specs.Objects.{answers};
+ghost use Rattle.gfx_commands.specs.Differing.{SetsLive};
 ghost use Rattle.gfx_commands.specs.Recording.{names};
 ghost use Rattle.gfx_commands.specs.Recordings.{buffers, commands_total, bytes_total};
 ghost use Rattle.gfx_laws.specs.Lawful.{has_signal};
@@ -147,6 +149,14 @@ impl State {
     {
         self.registry.set_layout(image, layout);
         self.is_empty = false;
+    }
+
+    /// Sets the layouts in which a command buffer leaves images, which have to be live.
+    pub(crate) fn leave_layouts(&mut self, cb: u64)
+        requires { AllByRecursion (SetsLive (state_answers self.old)) (asked_in (state_answers self.old).buffer cb) }
+        ensures { state_answers self.new ≡ record (state_answers self.old) { layout = layouts_after (state_answers self.old).layout (asked_in (state_answers self.old).buffer cb) } }
+    {
+        self.registry.leave_layouts(&self.recordings, cb);
     }
 
     /// Signals a live fence or semaphore.

@@ -1,82 +1,47 @@
 //! The row of a submit.
-ghost use Rattle.std.specs.Prelude.{◌≡◌, ◌++◌, [], false, length, take, fold, map, flat_map, OnOk, OnErr};
+ghost use Rattle.std.specs.Prelude.{◌≡◌, fold, map, flat_map};
 ghost use Rattle.std.specs.List.{AllByRecursion};
 ghost use Rattle.gfx_model.specs.Events.Event.{QueueSubmit};
-ghost use Rattle.gfx_model.specs.Steps.Step.{changes};
-ghost use Rattle.gfx_model.specs.Checks.{turns_of, turns_of_submit};
-ghost use Rattle.gfx_model.specs.Checks.Turn.{execute};
-ghost use Rattle.gfx_model.specs.Effects.{changes_of_op};
+ghost use Rattle.gfx_model.specs.Checks.{turns_of_submit};
+ghost use Rattle.gfx_model.specs.Layouts.{layouts_by};
 ghost use Rattle.gfx_model.specs.After.{after};
-ghost use Rattle.gfx_laws.specs.Lawful.{IsLawful};
 ghost use Rattle.gfx_tracker.specs.State.{state_answers};
 ghost use Rattle.gfx_tracker.specs.Taking.{after_event, IsNext};
-ghost use Rattle.gfx_tracker.specs.Submitted.{own_step, IsExecutable, HasSignals, SetsLive};
-ghost use Rattle.gfx_tracker.specs.Operations.{ops_of_turn};
+ghost use Rattle.gfx_tracker.specs.Submitted.{own_step, HasSignals, SetLayoutsOfLive};
 
 use crate::each::{execute_each, signal_any, signal_each, unsignal_each};
 use crate::state::State;
-use gfx_types::{Op, OpList, Submit, WantMemory};
+use gfx_types::Submit;
 
-/// The row of QueueSubmit. Its operations are appended in order. For want of memory all is as it was.
-pub(crate) fn queue_submit(
-    state: &mut State,
-    _queue: u64,
-    submits: &[Submit],
-    fence: u64,
-    ops: &mut OpList,
-) -> Result<(), WantMemory>
+/// The row of QueueSubmit.
+pub(crate) fn queue_submit(state: &mut State, _queue: u64, submits: &[Submit], fence: u64)
     requires { IsNext (state_answers state.old) (QueueSubmit _queue submits.now fence) }
-    ensures ok { OnOk result (state_answers state.new ≡ after_event (state_answers state.old) (QueueSubmit _queue submits.now fence)) }
-    ensures ops { OnOk result (ops.new ≡ ops.old ++ flat_map (ops_of_turn (state_answers state.old)) (turns_of submits.now fence)) }
-    ensures err { OnErr result (state_answers state.new ≡ state_answers state.old) }
-    ensures none { OnErr result (ops.new ≡ ops.old) }
+    ensures { state_answers state.new ≡ after_event (state_answers state.old) (QueueSubmit _queue submits.now fence) }
 {
-    let length = ops.items().len();
-    if let Err(WantMemory) = expand_submits(state, submits, ops) {
-        ops.cut(length);
-        return Err(WantMemory);
-    }
     state.take();
+    leave_layouts(state, submits);
     execute_submits(state, submits);
     signal_any(state, fence);
-    set_layouts(state, &ops.items()[length..]);
-    Ok(())
 }
 
-// Appends what the buffers of submits do, in order. For want of memory the list begins with what it was.
-fn expand_submits(state: &State, submits: &[Submit], ops: &mut OpList) -> Result<(), WantMemory>
-    requires lawful { ∥ IsLawful (state_answers state.now) [] ∥₁ }
-    requires executable { AllByRecursion (λ s. AllByRecursion (IsExecutable (state_answers state.now)) s.cbs) submits.now }
-    ensures ok { OnOk result (ops.new ≡ ops.old ++ flat_map (λ s. flat_map (λ cb. ops_of_turn (state_answers state.now) (execute cb)) s.cbs) submits.now) }
-    ensures err { OnErr result (take (length ops.old) ops.new ≡ ops.old) }
+// Sets the layouts in which the command buffers of submits leave images, one after the other.
+fn leave_layouts(state: &mut State, submits: &[Submit])
+    requires { AllByRecursion (λ s. AllByRecursion (SetLayoutsOfLive (state_answers state.old)) s.cbs) submits.now }
+    ensures { state_answers state.new ≡ record (state_answers state.old) { layout = layouts_by (state_answers state.old).buffer (state_answers state.old).layout (flat_map (λ s. s.cbs) submits.now) } }
 {
     'submits: for submit in submits {
-        expand_each(state, submit.cbs.items(), ops)?;
+        leave_layouts_each(state, submit.cbs.items());
     }
-    Ok(())
 }
 
-// Appends what buffers do, in order. For want of memory the list begins with what it was.
-fn expand_each(state: &State, cbs: &[u64], ops: &mut OpList) -> Result<(), WantMemory>
-    requires lawful { ∥ IsLawful (state_answers state.now) [] ∥₁ }
-    requires executable { AllByRecursion (IsExecutable (state_answers state.now)) cbs.now }
-    ensures ok { OnOk result (ops.new ≡ ops.old ++ flat_map (λ cb. ops_of_turn (state_answers state.now) (execute cb)) cbs.now) }
-    ensures err { OnErr result (take (length ops.old) ops.new ≡ ops.old) }
+// The same for the command buffers of one submit.
+fn leave_layouts_each(state: &mut State, cbs: &[u64])
+    requires { AllByRecursion (SetLayoutsOfLive (state_answers state.old)) cbs.now }
+    ensures { state_answers state.new ≡ record (state_answers state.old) { layout = layouts_by (state_answers state.old).buffer (state_answers state.old).layout cbs.now } }
 {
     'cbs: for cb in cbs {
-        expand(state, *cb, ops)?;
+        state.leave_layouts(*cb);
     }
-    Ok(())
-}
-
-// Appends what the commands of a buffer do. For want of memory the list is as it was.
-fn expand(state: &State, cb: u64, ops: &mut OpList) -> Result<(), WantMemory>
-    requires lawful { ∥ IsLawful (state_answers state.now) [] ∥₁ }
-    requires executable { IsExecutable (state_answers state.now) cb }
-    ensures ok { OnOk result (ops.new ≡ ops.old ++ ops_of_turn (state_answers state.now) (execute cb)) }
-    ensures err { OnErr result (ops.new ≡ ops.old) }
-{
-    state.recordings.expand(cb, &state.registry.objects, ops)
 }
 
 // The waits take their signals, the buffers are executed, and what is named is signalled, submit by submit.
@@ -97,26 +62,4 @@ fn execute_submit(state: &mut State, submit: &Submit)
     unsignal_each(state, submit.waits.items());
     execute_each(state, submit.cbs.items());
     signal_each(state, submit.signals.items());
-}
-
-// Sets the layouts that operations set; what else they do changes no answer once an effect was taken.
-fn set_layouts(state: &mut State, ops: &[Op])
-    requires taken { (state_answers state.old).is_empty ≡ false }
-    requires live { AllByRecursion (SetsLive (state_answers state.old)) ops.now }
-    ensures { state_answers state.new ≡ fold after (state_answers state.old) (map changes (flat_map (changes_of_op []) ops.now)) }
-{
-    'ops: for op in ops {
-        set_layout_of(state, op);
-    }
-}
-
-// The same for one operation.
-fn set_layout_of(state: &mut State, op: &Op)
-    requires taken { (state_answers state.old).is_empty ≡ false }
-    requires live { SetsLive (state_answers state.old) op.now }
-    ensures { state_answers state.new ≡ fold after (state_answers state.old) (map changes (changes_of_op [] op.now)) }
-{
-    if let Op::SetLayout { image, layout } = op {
-        state.set_layout(*image, *layout);
-    }
 }

@@ -1,11 +1,12 @@
 //! The tracker: what stands after the effects of a capture, and which effect may follow.
-ghost use Rattle.std.specs.Prelude.{◌≡◌, ℕ, ◌++◌, [], None, length, OnOk, OnErr, IfOk};
+ghost use Rattle.std.specs.Prelude.{◌≡◌, ℕ, ◌++◌, [], None, filter, length, OnOk, OnErr, IfOk};
 ghost use Rattle.gfx_model.specs.Events.{event_of};
 ghost use Rattle.gfx_model.specs.Table.{checks_of};
 ghost use Rattle.gfx_model.specs.Checks.{first_broken};
 ghost use Rattle.gfx_model.specs.Views.{view_of, image_at, images_in};
 ghost use Rattle.gfx_laws.specs.Lawful.{IsLawful};
 ghost use Rattle.gfx_objects.specs.Objects as objects;
+ghost use Rattle.gfx_ops.specs.Operations.{changes_bytes};
 ghost use Rattle.gfx_commands.specs.Recordings.{buffers};
 ghost use Rattle.gfx_swap.specs.Signals.{is_signalled};
 ghost use Rattle.gfx_swap.specs.Acquired.{is_acquired, marks_of};
@@ -14,6 +15,7 @@ ghost use Rattle.gfx_tracker.specs.Taking.{after_event};
 ghost use Rattle.gfx_tracker.specs.Operations.{ops_of};
 ghost use Rattle.gfx_tracker.specs.Outcome.{outcome_of, rule_in};
 
+use crate::expansion::append_ops;
 use crate::outcome::{ApplyFault, Outcome, outcome_of};
 use crate::rows::take_effect;
 use crate::state::State;
@@ -51,17 +53,33 @@ impl Tracker {
         self.state.fault_of(effect)
     }
 
-    /// Takes an effect that breaks no check and appends its operations. For want of memory the tracker and the list are as
-    /// they were.
-    pub fn take(&mut self, effect: &Effect<'_>, ops: &mut OpList) -> Result<Outcome, WantMemory>
+    /// Appends the operations of an effect that breaks no check: what it does to bytes and layouts. For want of memory the
+    /// list is as it was.
+    pub fn expand(&self, effect: &Effect<'_>, ops: &mut OpList) -> Result<(), WantMemory>
+        requires { first_broken (answers self.now) (checks_of (event_of effect.now)) ≡ None }
+        ensures ok { OnOk result (ops.new ≡ ops.old ++ ops_of (answers self.now) (event_of effect.now)) }
+        ensures err { OnErr result (ops.new ≡ ops.old) }
+    {
+        append_ops(&self.state, effect, true, ops)
+    }
+
+    /// The same without layouts: what the effect does to bytes.
+    pub fn expand_bytes(&self, effect: &Effect<'_>, ops: &mut OpList) -> Result<(), WantMemory>
+        requires { first_broken (answers self.now) (checks_of (event_of effect.now)) ≡ None }
+        ensures ok { OnOk result (ops.new ≡ ops.old ++ filter changes_bytes (ops_of (answers self.now) (event_of effect.now))) }
+        ensures err { OnErr result (ops.new ≡ ops.old) }
+    {
+        append_ops(&self.state, effect, false, ops)
+    }
+
+    /// Takes an effect that breaks no check. For want of memory the tracker is as it was.
+    pub fn take(&mut self, effect: &Effect<'_>) -> Result<Outcome, WantMemory>
         requires { first_broken (answers self.old) (checks_of (event_of effect.now)) ≡ None }
         ensures ok { OnOk result (answers self.new ≡ after_event (answers self.old) (event_of effect.now)) }
-        ensures ops { OnOk result (ops.new ≡ ops.old ++ ops_of (answers self.old) (event_of effect.now)) }
         ensures shown { IfOk result (λ o. o ≡ outcome_of (event_of effect.now)) }
         ensures err { OnErr result (answers self.new ≡ answers self.old) }
-        ensures none { OnErr result (ops.new ≡ ops.old) }
     {
-        take_effect(&mut self.state, effect, ops)?;
+        take_effect(&mut self.state, effect)?;
         Ok(outcome_of(effect))
     }
 
@@ -78,7 +96,15 @@ impl Tracker {
         if let Some(fault) = self.fault_of(effect) {
             return Err(ApplyFault::Rule(fault));
         }
-        Ok(self.take(effect, ops)?)
+        let length = ops.items().len();
+        self.expand(effect, ops)?;
+        match self.take(effect) {
+            Ok(outcome) => Ok(outcome),
+            Err(WantMemory) => {
+                ops.cut(length);
+                Err(ApplyFault::WantMemory)
+            }
+        }
     }
 
     /// The live objects, and which ids were ever used.

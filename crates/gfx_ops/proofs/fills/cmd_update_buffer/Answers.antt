@@ -1,4 +1,4 @@
-use Rattle.std.proofs.Common.{◌≡◌, ◌≤◌, ◌+◌, ◌++◌, ◌∷◌, [], ◌∙◌, ◌^◌, ap, subst, sym, OnOk, arith}
+use Rattle.std.proofs.Common.{◌≡◌, ◌≤◌, ◌+◌, ◌++◌, ◌∷◌, [], ◌∙◌, ap, subst, OnOk, arith}
 use Rattle.gfx_types.specs.declared.op.Op.TheVariants as op
 use Rattle.gfx_model.specs.Views.{size_of}
 use Rattle.gfx_model.specs.Limits.{max_live_bytes}

@@ -3,8 +3,11 @@ use Rattle.std.specs.Prelude.{flat_map, slice_range}
 use Rattle.std.specs.List.{AllByRecursion}
 use Rattle.std.proofs.lemmas.Result.{err_from_is_err_and}
 use Rattle.std.proofs.lemmas.List.{take_all}
+use Rattle.gfx_types.specs.declared.op.Op.{Op}
+use Rattle.gfx_model.specs.Events.{Event}
 use Rattle.gfx_objects.specs.Objects.{answers}
-use Rattle.gfx_ops.specs.Operations.{ops_of_command}
+use Rattle.gfx_ops.specs.Operations.{ops_of_command, listed}
+use Rattle.gfx_ops.proofs.Listed.{listed_flat}
 use Rattle.gfx_commands.specs.declared.commands.Command.{Command}
 use Rattle.gfx_commands.specs.Commands.{start_at, events_in}
 use Rattle.gfx_commands.specs.Inside.{spelled_in}
@@ -77,7 +80,7 @@ returns-in_err-append_ops-clause-err c =
 pub items-preserved : goal.items-preserved
 items-preserved c =
     let s = c.self.inside in
-    let f = ops_of_command (answers c.args.objects.now) in
+    let f : Event → List Op = λ e. listed c.args.with_layouts (ops_of_command (answers c.args.objects.now) e) in
     let one = slice_index_or c.deref-command-items.result.now c.items.command-index none in
     let at = there s.commands.items c.deref-command-items.result.now c.items.command-index c.deref-command-items.ensures.value c.items-test.true in
     record {
@@ -91,7 +94,7 @@ items-preserved c =
 pub returns-clause-ok : goal.returns-clause-ok
 returns-clause-ok c =
     let s = c.self.inside in
-    let f = ops_of_command (answers c.args.objects.now) in
+    let f : Event → List Op = λ e. listed c.args.with_layouts (ops_of_command (answers c.args.objects.now) e) in
     let events = length-events (spelled_in s) in
     let spelled = length-cut s.fields.items 0 s.commands.items in
     let items = ap length c.deref-command-items.ensures.value in
@@ -99,3 +102,4 @@ returns-clause-ok c =
     c.items.invariant.ops
     ∙ ap (λ es. c.args.ops.now ++ flat_map f es) (take_all c.items.command-index (events_in (spelled_in s)) (omega (arith, events, spelled, items, end)))
     ∙ ap (λ ss. c.args.ops.now ++ flat_map f (events_in ss)) c.self.view_is
+    ∙ ap (λ os. c.args.ops.now ++ os) (listed_flat c.args.with_layouts (ops_of_command (answers c.args.objects.now)) (events_in c.args.self.now))

@@ -1,7 +1,7 @@
 use Rattle.std.proofs.Common.{◌∙◌}
 use Rattle.std.proofs.lemmas.Result.{err_from_is_err_and}
 use Rattle.gfx_ops.proofs.Appending.{front_stays}
-use Rattle.gfx_tracker.proofs.submits.expand_each.Goals as goal
+use Rattle.gfx_tracker.proofs.expansion.expand_each.Goals as goal
 
 pub returns-in_err-expand-clause-err : goal.returns-in_err-expand-clause-err
 returns-in_err-expand-clause-err c =
