@@ -44,15 +44,15 @@ pub fn put_number(number: u64, out: &mut Vec<u8>) -> Result<(), AllocError>
     out.extend_from_slice(buffer.format(number).as_bytes())
 }
 
-/// Appends bytes in hexadecimal, two digits in lower case for each. After want of memory some of them may stand behind
-/// the old text.
+/// Appends bytes in hexadecimal, two digits in lower case for each. After want of memory `out` is as it was.
 pub fn put_bytes(bytes: &[u8], out: &mut Vec<u8>) -> Result<(), AllocError>
     ensures ok { OnOk result (out.new.items ≡ out.old.items ++ hex_text bytes.now) }
-    ensures err { OnErr result (take (length out.old.items) out.new.items ≡ out.old.items) }
+    ensures err { OnErr result (out.new.items ≡ out.old.items) }
 {
+    out.reserve(2 * bytes.len())?;
     'bytes: for byte in bytes {
-        let digits = [hex_digit(*byte / 16), hex_digit(*byte % 16)];
-        out.extend_from_slice(&digits)?;
+        out.push_reserved(hex_digit(*byte / 16));
+        out.push_reserved(hex_digit(*byte % 16));
     }
     Ok(())
 }
