@@ -30,7 +30,7 @@ use Rattle.gfx_play.proofs.Showing.{Showing, next_fails, stops, write_fails}
 use Rattle.gfx_fan.specs.declared.album.Album.{Album}
 use Rattle.gfx_fan.specs.Gathered.{Gathering, StopsAny, all_lines}
 use Rattle.gfx_fan.specs.Kept.{IsBare, TakesFrame, kept_lines, plain}
-use Rattle.gfx_fan.proofs.Keeping.{bare_lines, bare_paired, bare_small, part_on, so_far_on}
+use Rattle.gfx_fan.proofs.Keeping.{bare_lines, bare_small, part_on, so_far_on}
 
 -- ---- one frame more
 
@@ -38,7 +38,6 @@ pub gathered_none : (p : Player) (k : Album) (file left taken : Option (List ℕ
     Gathering p k [] file left taken taken
 gathered_none p k file left taken plays all listing count bare = record {
   plays = plays;
-  paired = bare_paired k bare;
   small = bare_small k bare;
   asked_is = all;
   listing = listing;
@@ -64,7 +63,6 @@ pub gathered_more : (was p : Player) (old new : Album) (shown : List Frame) (f :
     Gathering p new (shown ++ frame_of (bytes_of p.replayer) f ∷ []) file rest before after
 gathered_more was p old new shown f file left rest before middle after s next minor took = record {
   plays = next.plays;
-  paired = took.paired;
   small = took.small;
   asked_is = took.asked ∙ s.asked_is;
   listing = took.listing ∙ s.listing ∙ ap plain (sym minor);
@@ -78,7 +76,6 @@ pub gathered_on : (was p : Player) (k : Album) (shown : List Frame) (file left r
     Gathering p k shown file rest before after
 gathered_on was p k shown file left rest before after s plays minor = record {
   plays = plays;
-  paired = s.paired;
   small = s.small;
   asked_is = s.asked_is;
   listing = s.listing ∙ ap plain (sym minor);

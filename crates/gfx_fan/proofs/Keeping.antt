@@ -1,11 +1,10 @@
 -- The lines of images that are kept, one image after another.
-use Rattle.std.proofs.Common.{◌≡◌, ◌<◌, ◌≤◌, ◌+◌, ◌*◌, ◌^◌, ◌||◌, nat_le, ℕ, suc, Bool, false, List, [], ◌∷◌, ◌++◌, length, drop, get_or, drop-cons, Option, Some, None, IsSomeAnd, OnOk, Result, Ok, Err, refl, sym, ap, subst, ◌∙◌, append_assoc, length-append, arith}
+use Rattle.std.proofs.Common.{◌≡◌, ◌<◌, ◌≤◌, ◌+◌, ◌*◌, ◌^◌, ◌||◌, nat_le, ℕ, suc, Bool, false, List, [], ◌∷◌, ◌++◌, length, drop, map, get_or, drop-cons, le_refl, Option, Some, None, IsSomeAnd, refl, sym, ap, subst, ◌∙◌, append_assoc, arith}
 use Rattle.std.specs.Prelude.{IsSome, string_bytes, unwrap_or}
 use Rattle.std.specs.Io.KnownBytes.{Appends}
 use Rattle.std.proofs.Math.Nat.{mul-le-mul}
 use Rattle.std.proofs.lemmas.Bool.Decides.{nat_tests}
-use Rattle.std.proofs.lemmas.List.{append-nil, drop_all, length-map}
-use Rattle.std.proofs.lemmas.List.Sums.{sum_by_push}
+use Rattle.std.proofs.lemmas.List.{append-nil, drop-append-le, drop-map, drop_all, get_or-map, length-map}
 use Rattle.sha2.specs.Sha256.{sha256}
 use Rattle.gfx_io.specs.Pieces.{AppendsPart}
 use Rattle.gfx_io.proofs.Appending.{appends_then, part_then}
@@ -16,48 +15,25 @@ use Rattle.gfx_model.specs.Text.{hex_text, title_of}
 use Rattle.gfx_frames.specs.Texts.{bytes_of, digest_line, first_line}
 use Rattle.gfx_frames.specs.declared.lines.Listing.{Listing}
 use Rattle.gfx_frames.proofs.Listed.{lines_from, next_lines, without_rows}
-use Rattle.gfx_frames.proofs.SoFar.{SoFar, so_far_none}
+use Rattle.gfx_frames.proofs.SoFar.{SoFar, so_far_all, so_far_more, so_far_none, so_far_part}
 use Rattle.gfx_replay.specs.Held.{Bytes}
 use Rattle.gfx_replay.specs.Shown.{IsThere}
 use Rattle.gfx_replay.specs.declared.shown.ShownPicture.{ShownPicture}
 use Rattle.gfx_fan.specs.declared.album.Album.{Album}
-use Rattle.gfx_fan.specs.declared.album.Caption.{Caption}
-use Rattle.gfx_fan.specs.Kept.{GoesOn, IsBare, IsListed, IsPaired, IsSmall, TakesFrame, digests_of, kept_lines, line_of, lines_by, picture_bytes}
+use Rattle.gfx_fan.specs.declared.begun.Begun.{Begun}
+use Rattle.gfx_fan.specs.declared.shown.Caption.{Caption}
+use Rattle.gfx_fan.specs.declared.shown.Shown.{Shown}
+use Rattle.gfx_fan.specs.Kept.{GoesOn, IsBare, IsHeld, IsListed, IsSmall, TakesFrame, image_bytes, image_line, images, kept_lines, line_of, lines_of, newer, of_begun, of_shown, older}
 
 -- ---- an image more
 
-lines_more : (cs : List Caption) (ps : List (List ℕ)) (c : Caption) (p : List ℕ) → length cs ≡ length ps →
-    lines_by (cs ++ c ∷ []) (digests_of (ps ++ p ∷ [])) ≡ lines_by cs (digests_of ps) ++ digest_line (string_bytes c.title) c.shown (hex_text (sha256 p))
-lines_more [] [] c p same = append-nil (digest_line (string_bytes c.title) c.shown (hex_text (sha256 p)))
-lines_more [] (q ∷ ps) c p same = absurd (omega (arith, same))
-lines_more (d ∷ cs) [] c p same = absurd (omega (arith, same))
-lines_more (d ∷ cs) (q ∷ ps) c p same =
-    let line = digest_line (string_bytes d.title) d.shown (hex_text (sha256 q)) in
-    ap (λ l. line ++ l) (lines_more cs ps c p (omega (arith, same)))
-    ∙ sym (append_assoc line (lines_by cs (digests_of ps)) (digest_line (string_bytes c.title) c.shown (hex_text (sha256 p))))
-
--- what is kept, with an image and its caption
-pub kept_more : (cs ds : List Caption) (ps qs : List (List ℕ)) (c : Caption) (p : List ℕ) → length cs ≡ length ps → ds ≡ cs ++ c ∷ [] → qs ≡ ps ++ p ∷ [] →
-    lines_by ds (digests_of qs) ≡ lines_by cs (digests_of ps) ++ digest_line (string_bytes c.title) c.shown (hex_text (sha256 p))
-kept_more cs ds ps qs c p paired captions pictures =
-    ap (λ l. lines_by l (digests_of qs)) captions ∙ ap (λ l. lines_by (cs ++ c ∷ []) (digests_of l)) pictures ∙ lines_more cs ps c p paired
-
--- and its line is that of the image in its place
+-- the line of an image that is kept is that of the image in its place
 pub kept_line : (places : Bytes) (c : Caption) (p kept all : List ℕ) → p ≡ bytes_of places c.shown.place → all ≡ kept ++ digest_line (string_bytes c.title) c.shown (hex_text (sha256 p)) →
     all ≡ kept ++ line_of places c
 unfolding first_line
 kept_line places c p kept all pixels is = is ∙ ap (λ bytes. kept ++ digest_line (string_bytes c.title) c.shown (hex_text (sha256 bytes))) pixels
 
-pub paired_more : (cs ds : List Caption) (ps qs : List (List ℕ)) (c : Caption) (p : List ℕ) → length cs ≡ length ps → ds ≡ cs ++ c ∷ [] → qs ≡ ps ++ p ∷ [] → length ds ≡ length qs
-paired_more cs ds ps qs c p paired captions pictures =
-    omega (arith, ap length captions, length-append cs (c ∷ []), ap length pictures, length-append ps (p ∷ []), paired)
-
 -- ---- how much is kept
-
--- the bytes of an image more
-pub bytes_more : (ps qs : List (List ℕ)) (p : List ℕ) (old new long : ℕ) → old ≡ picture_bytes ps → new ≡ old + long → long ≡ length p → qs ≡ ps ++ p ∷ [] → new ≡ picture_bytes qs
-bytes_more ps qs p old new long was is size pictures =
-    is ∙ ap (λ n. n + long) was ∙ ap (λ n. picture_bytes ps + n) size ∙ sym (sum_by_push length ps p) ∙ ap picture_bytes (sym pictures)
 
 -- an image has at most 2^26 bytes
 pub few_bytes : (b : Bytes) (p : ShownPicture) → IsThere b p → length (bytes_of b p.place) ≤ 2 ^ 26
@@ -74,64 +50,106 @@ few_bytes b p there = by (b p.place) there.there
     by None is = absurd is
     by (Some all) is = omega (arith, is, size)
 
--- whether an album is full, as it is looked at
+-- whether there is no room for a further image, as it is looked at
 abbrev looks_full : (count size : ℕ) → Bool
-looks_full count size = nat_le 64 count || nat_le 268435456 size
+looks_full count size = nat_le 32 count || nat_le 67108864 size
 
-few_by : (count size : ℕ) → looks_full count size ≡ false → (count < 64) × (size < 2 ^ 28)
+few_by : (count size : ℕ) → looks_full count size ≡ false → (count < 32) × (size < 2 ^ 26)
 few_by count size under = (grind (arith, nat_tests), grind (arith, nat_tests))
 
-pub is_small : (k : Album) → k.size ≡ picture_bytes k.pictures.items → looks_full (length k.pictures.items) k.size ≡ false → IsSmall k
-is_small k counted under =
-    let bounds = few_by (length k.pictures.items) k.size under in
-    record { counted = counted; few = bounds.0; small = bounds.1 }
+pub is_small : (k : Album) → IsHeld k → looks_full (length k.shown.items) k.size ≡ false → IsSmall k
+is_small k held under =
+    let bounds = few_by (length k.shown.items) k.size under in
+    record { held = held; few = bounds.0; small = bounds.1 }
 
 pub bare_small : (k : Album) → IsBare k → IsSmall k
 bare_small k bare = record {
-  counted = bare.size ∙ ap picture_bytes (sym bare.pictures);
-  few = omega (arith, ap length bare.pictures);
+  held = record {
+    counted = bare.size ∙ ap (λ ss. image_bytes (newer ss)) (sym bare.shown);
+    few = omega (arith, ap length bare.shown);
+    small = omega (arith, bare.size);
+    older_few = omega (arith, ap length bare.begun);
+    older_small = subst (λ bs. image_bytes (older bs) < 2 ^ 27) (sym bare.begun) (omega arith);
+  };
+  few = omega (arith, ap length bare.shown);
   small = omega (arith, bare.size);
 }
 
--- as many digests as captions
-pub paired_digests : (cs bs : List Caption) (ps qs : List (List ℕ)) (ds es : List (List ℕ)) → length cs ≡ length ps → bs ≡ cs → qs ≡ ps → es ≡ ds → ds ≡ digests_of qs → length bs ≡ length es
-paired_digests cs bs ps qs ds es paired captions pictures lent digests =
-    ap length captions ∙ paired ∙ sym (ap length pictures) ∙ sym (length-map qs sha256) ∙ sym (ap length digests) ∙ sym (ap length lent)
-
--- the lines of what is kept, by its digests
-pub lines_kept : (cs bs : List Caption) (ps qs : List (List ℕ)) (ds es : List (List ℕ)) → bs ≡ cs → qs ≡ ps → es ≡ ds → ds ≡ digests_of qs → lines_by bs es ≡ lines_by cs (digests_of ps)
-lines_kept cs bs ps qs ds es captions pictures lent digests =
-    ap (λ l. lines_by l es) captions ∙ ap (lines_by cs) (lent ∙ digests ∙ ap digests_of pictures)
-
 -- an album without images keeps no lines
 pub bare_lines : (k : Album) → IsBare k → kept_lines k ≡ []
-bare_lines k bare = ap (λ cs. lines_by cs (digests_of k.pictures.items)) bare.captions
+bare_lines k bare = ap (λ bs. lines_of (older bs ++ newer k.shown.items)) bare.begun ∙ ap (λ ss. lines_of (newer ss)) bare.shown
 
-pub bare_paired : (k : Album) → IsBare k → IsPaired k
-bare_paired k bare = ap length bare.captions ∙ ap length (sym bare.pictures)
+-- ---- the newer images are begun
+
+older_drop : (n : ℕ) (bs : List Begun) → older (drop n bs) ≡ drop n (older bs)
+older_drop n bs = sym (drop-map of_begun n bs)
+
+-- once the older images are written, those that were newer are the older ones
+pub turned : (old middle new : Album) → IsHeld old → images middle ≡ images old → middle.shown.items ≡ [] → middle.size ≡ 0 → new.shown.items ≡ middle.shown.items → new.size ≡ middle.size →
+    new.begun.items ≡ drop (length old.begun.items) middle.begun.items → IsSmall new
+turned old middle new was same bare none shown size dropped = record {
+  held = record {
+    counted = size ∙ none ∙ ap (λ ss. image_bytes (newer ss)) (sym empty);
+    few = omega (arith, ap length empty);
+    small = omega (arith, size, none);
+    older_few = omega (arith, ap length left, length-map new.begun.items of_begun, length-map old.shown.items of_shown, was.few);
+    older_small = subst (λ is. image_bytes is < 2 ^ 27) (sym left) (omega (arith, was.counted, was.small));
+  };
+  few = omega (arith, ap length empty);
+  small = omega (arith, size, none);
+}
+  where
+    empty : new.shown.items ≡ []
+    empty = shown ∙ bare
+
+    all : older middle.begun.items ≡ older old.begun.items ++ newer old.shown.items
+    all = sym (append-nil (older middle.begun.items)) ∙ ap (λ ss. older middle.begun.items ++ newer ss) (sym bare) ∙ same
+
+    count : length old.begun.items ≡ length (older old.begun.items)
+    count = sym (length-map old.begun.items of_begun)
+
+    left : older new.begun.items ≡ newer old.shown.items
+    left = ap older dropped ∙ older_drop (length old.begun.items) middle.begun.items ∙ ap (drop (length old.begun.items)) all ∙ ap (λ n. drop n (older old.begun.items ++ newer old.shown.items)) count
+        ∙ drop-append-le (length (older old.begun.items)) (older old.begun.items) (newer old.shown.items) (le_refl (length (older old.begun.items)))
+        ∙ ap (λ l. l ++ newer old.shown.items) (drop_all (length (older old.begun.items)) (older old.begun.items) (le_refl (length (older old.begun.items))))
+
+-- ---- the older images are written
+
+-- the oldest image is the first of all
+pub oldest_line : (bs cs : List Begun) (b : Begun) (ss : List Shown) → bs ≡ b ∷ cs → lines_of (older bs ++ newer ss) ≡ image_line (of_begun b) ++ lines_of (older cs ++ newer ss)
+oldest_line bs cs b ss is = ap (λ l. lines_of (older l ++ newer ss)) is
+
+-- behind the older ones the newer are left
+lines_left : (bs cs : List Begun) (ss : List Shown) → cs ≡ drop (length bs) bs → lines_of (older cs ++ newer ss) ≡ lines_of (newer ss) ++ []
+lines_left bs cs ss is = ap (λ l. lines_of (older l ++ newer ss)) (is ∙ drop_all (length bs) bs (le_refl (length bs))) ∙ sym (append-nil (lines_of (newer ss)))
+
+pub left_part : (a b c : Option (List ℕ)) (text : List ℕ) (bs cs : List Begun) (ss : List Shown) → cs ≡ drop (length bs) bs → SoFar a b text (lines_of (older cs ++ newer ss)) → AppendsPart b c (lines_of (newer ss)) →
+    AppendsPart a c text
+left_part a b c text bs cs ss is s part = so_far_part a b c text (lines_of (newer ss)) [] (subst (SoFar a b text) (lines_left bs cs ss is) s) part
+
+pub left_all : (a b c : Option (List ℕ)) (text : List ℕ) (bs cs : List Begun) (ss : List Shown) → cs ≡ drop (length bs) bs → SoFar a b text (lines_of (older cs ++ newer ss)) → Appends b c (lines_of (newer ss)) → Appends a c text
+left_all a b c text bs cs ss is s took = so_far_all a c text (so_far_more a b c text (lines_of (newer ss)) [] (subst (SoFar a b text) (lines_left bs cs ss is) s) took)
 
 -- a frame more leaves an album in order
 pub goes_on : (old new : Album) (text : List ℕ) (a b : Option (List ℕ)) → IsListed old → TakesFrame old new text a b → GoesOn old new
 goes_on old new text a b was took = record {
-  listed = record { paired = took.paired; small = took.small; plain_is = ap (λ l. l.pixels) took.listing ∙ was.plain_is };
+  listed = record { small = took.small; plain_is = ap (λ l. l.pixels) took.listing ∙ was.plain_is };
   count = omega (arith, took.count);
 }
 
 -- ---- the lines that are left to write
 
-pub next_line : (cs : List Caption) (ds : List (List ℕ)) (i : ℕ) (c : Caption) (d : List ℕ) → i < length cs → length cs ≡ length ds → c ≡ get_or cs i c →
-    lines_by (drop i cs) (drop i ds) ≡ digest_line (string_bytes c.title) c.shown (hex_text (get_or ds i d)) ++ lines_by (drop (i + 1) cs) (drop (i + 1) ds)
-next_line cs ds i c d below same is =
+pub next_line : (ss : List Shown) (i : ℕ) (s : Shown) → i < length ss → s ≡ get_or ss i s → lines_of (newer (drop i ss)) ≡ image_line (of_shown s) ++ lines_of (newer (drop (i + 1) ss))
+next_line ss i s below is =
     let next : suc i ≡ i + 1 = omega arith in
-    let here = digest_line (string_bytes c.title) c.shown (hex_text (get_or ds i d)) in
-    ap (λ l. lines_by l (drop i ds)) (drop-cons cs i c below ∙ ap (λ x. x ∷ drop (suc i) cs) (sym is))
-    ∙ ap (λ l. lines_by (c ∷ drop (suc i) cs) l) (drop-cons ds i d (omega (arith, below, same)))
-    ∙ ap (λ n. here ++ lines_by (drop n cs) (drop n ds)) next
+    ap (λ l. lines_of (newer l)) (drop-cons ss i s below ∙ ap (λ x. x ∷ drop (suc i) ss) (sym is)) ∙ ap (λ n. image_line (of_shown s) ++ lines_of (newer (drop n ss))) next
 
--- the line that is written of an image
-pub line_is : (bytes text title : List ℕ) (c : Caption) (d : List ℕ) → bytes ≡ text → text ≡ digest_line title c.shown (hex_text d) → title ≡ string_bytes c.title →
-    bytes ≡ digest_line (string_bytes c.title) c.shown (hex_text d)
-line_is bytes text title c d same is named = same ∙ is ∙ ap (λ t. digest_line t c.shown (hex_text d)) named
+-- the line that is written of an image, by the digest in its place
+pub written_line : (ss : List Shown) (ds : List (List ℕ)) (i : ℕ) (s : Shown) → i < length ss → ds ≡ map (λ s. sha256 s.pixels) ss → s ≡ get_or ss i s →
+    digest_line (string_bytes s.caption.title) s.caption.shown (hex_text (get_or ds i [])) ≡ image_line (of_shown s)
+written_line ss ds i s below is here =
+    ap (λ d. digest_line (string_bytes s.caption.title) s.caption.shown (hex_text d))
+    (ap (λ l. get_or l i []) is ∙ get_or-map (λ s. sha256 s.pixels) ss i s [] below ∙ ap (λ s. sha256 s.pixels) (sym here))
 
 -- ---- the images of a frame that are left
 
@@ -169,18 +187,9 @@ so_far_step a b c text kept more rest left s t = record {
   parts = s.parts ∙ ap (λ l. s.done ++ (l ++ rest)) t.parts ∙ ap (λ l. s.done ++ l) (append_assoc t.done left rest) ∙ sym (append_assoc s.done t.done (left ++ rest));
 }
 
--- what is kept was written whole
-pub so_far_bare : (a b : Option (List ℕ)) (text done left : List ℕ) → Appends a b done → text ≡ done → left ≡ [] → SoFar a b text left
-so_far_bare a b text done left took is bare = record { done = done; took = took; parts = is ∙ sym (append-nil done) ∙ ap (λ l. done ++ l) (sym bare) }
-
 -- of what is kept nothing was written
 pub so_far_kept : (a : Option (List ℕ)) (text left : List ℕ) → left ≡ text → SoFar a a text left
 so_far_kept a text left is = subst (SoFar a a text) (sym is) (so_far_none a text)
-
--- what holds where a call was done
-pub on_both : {T E : Type 0} (r : Result T E) (P Q R : Type 0) → (P → Q → R) → OnOk r P → OnOk r Q → OnOk r R
-on_both (Ok x) P Q R f p q = f p q
-on_both (Err e) P Q R f p q = tt
 
 -- ---- the bytes of a place
 

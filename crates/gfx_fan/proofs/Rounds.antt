@@ -29,7 +29,6 @@ use Rattle.gfx_fan.specs.declared.group.Ending.{Ending}
 use Rattle.gfx_fan.specs.declared.group.Ending.TheVariants.{Full, Clean, Stopped}
 use Rattle.gfx_fan.specs.Gathered.{Gathering, IsReplaying, StopsAny, with_stage}
 use Rattle.gfx_fan.specs.Groups.{Ends, held}
-use Rattle.gfx_fan.specs.Kept.{IsPaired}
 use Rattle.gfx_fan.specs.Walked.{Came, IsReady}
 use Rattle.gfx_fan.proofs.Feeding.{staged_alike}
 use Rattle.gfx_fan.proofs.Gathering.{StopsSo, gathered_on, unwritten}
@@ -70,7 +69,7 @@ is_ready p k shown file left before after s place = record {
   place = place;
   going = plays_going p shown file left s.plays;
   replaying = (s.plays.fed, s.plays.replayed);
-  listed = record { paired = s.paired; small = s.small; plain_is = ap (λ l. l.pixels) s.listing };
+  listed = record { small = s.small; plain_is = ap (λ l. l.pixels) s.listing };
   room = omega (arith, room_for asked.All p shown file left k.screen.count s.plays s.count);
 }
 
@@ -173,12 +172,6 @@ walks_on was q p end ending middle new here same alike is ends = by ending is en
     }
     by Clean is ends = absurd cc
     by (Stopped why) is ends = absurd cc
-
--- each image that is kept has its caption there
-pub came_paired : (ending : Ending) (p : Player) (k : Album) (shown : List Frame) (file left before after : Option (List ℕ)) → Came ending p k shown file left before after → IsPaired k
-came_paired Full p k shown file left before after s = s.paired
-came_paired Clean p k shown file left before after (was, middle, s, all) = s.paired
-came_paired (Stopped why) p k shown file left before after (was, middle, s, stops) = s.paired
 
 -- ---- causes
 

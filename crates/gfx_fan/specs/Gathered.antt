@@ -14,7 +14,7 @@ use Rattle.gfx_player.specs.Walks.{HasRead, HasReplayed, Plays}
 use Rattle.gfx_play.specs.Screens.{lines_of}
 use Rattle.gfx_play.specs.Shows.{Answers}
 use Rattle.gfx_fan.specs.declared.album.Album.{Album}
-use Rattle.gfx_fan.specs.Kept.{IsPaired, IsSmall, kept_lines, plain}
+use Rattle.gfx_fan.specs.Kept.{IsSmall, kept_lines, plain}
 
 -- the lines of all frames of a list
 abbrev pub all_lines : ℕ → List Frame → List ℕ
@@ -23,7 +23,6 @@ all_lines m shown = lines_of (plain m) (asked_of asked.All shown)
 -- these frames were shown; their lines are what the sink took, and what an album keeps
 pub record Gathering (p : Player) (k : Album) (shown : List Frame) (file left before after : Option (List ℕ)) : Type 0 where
   pub plays : Plays p shown file left
-  pub paired : IsPaired k
   pub small : IsSmall k
   pub asked_is : k.screen.asked ≡ asked.All
   pub listing : k.screen.listing ≡ plain p.minor

@@ -1,7 +1,7 @@
 -- The lines of images that are kept.
-use Rattle.std.specs.Prelude.{◌≡◌, ◌≤◌, ◌<◌, ◌+◌, ◌^◌, ℕ, false, List, [], ◌∷◌, ◌++◌, length, map, string_bytes}
+use Rattle.std.specs.Prelude.{◌≡◌, ◌≤◌, ◌<◌, ◌+◌, ◌^◌, ℕ, false, List, [], ◌++◌, length, map, string_bytes}
 use Rattle.std.specs.declared.option.Option.{Option}
-use Rattle.std.specs.List.{sum_by}
+use Rattle.std.specs.List.{flat_map, sum_by}
 use Rattle.sha2.specs.Sha256.{sha256}
 use Rattle.gfx_model.specs.Text.{hex_text}
 use Rattle.gfx_frames.specs.Texts.{digest_line, first_line}
@@ -9,44 +9,69 @@ use Rattle.gfx_frames.proofs.SoFar.{SoFar}
 use Rattle.gfx_frames.specs.declared.lines.Listing.{Listing}
 use Rattle.gfx_replay.specs.Held.{Bytes}
 use Rattle.gfx_fan.specs.declared.album.Album.{Album}
-use Rattle.gfx_fan.specs.declared.album.Caption.{Caption}
+use Rattle.gfx_fan.specs.declared.begun.Begun.{Begun}
+use Rattle.gfx_fan.specs.declared.shown.Caption.{Caption}
+use Rattle.gfx_fan.specs.declared.shown.Shown.{Shown}
 
 -- a file's lines without the rows of its images
 abbrev pub plain : ℕ → Listing
 plain m = record { minor = m; pixels = false }
 
--- a line for each image, by its digest
-abbrev pub lines_by : List Caption → List (List ℕ) → List ℕ
-lines_by [] ds = []
-lines_by (c ∷ cs) [] = []
-lines_by (c ∷ cs) (d ∷ ds) = digest_line (string_bytes c.title) c.shown (hex_text d) ++ lines_by cs ds
+-- an image, with what is written of it beside its digest
+pub record Image : Type 0 where
+  pub caption : Caption
+  pub pixels : List ℕ
 
--- the digests of images, by their bytes
-abbrev pub digests_of : List (List ℕ) → List (List ℕ)
-digests_of ps = map sha256 ps
+abbrev pub of_shown : Shown → Image
+of_shown s = record { caption = s.caption; pixels = s.pixels }
+
+abbrev pub of_begun : Begun → Image
+of_begun b = record { caption = b.caption; pixels = b.hashing.pixels.value }
+
+-- images that are shown, and such whose digests are being found
+abbrev pub newer : List Shown → List Image
+newer ss = map of_shown ss
+
+abbrev pub older : List Begun → List Image
+older bs = map of_begun bs
+
+-- the images that an album keeps
+abbrev pub images : Album → List Image
+images k = older k.begun.items ++ newer k.shown.items
+
+-- the line of an image, with its digest
+abbrev pub image_line : Image → List ℕ
+image_line i = digest_line (string_bytes i.caption.title) i.caption.shown (hex_text (sha256 i.pixels))
+
+abbrev pub lines_of : List Image → List ℕ
+lines_of is = flat_map image_line is
 
 -- the lines of the images that an album keeps
 abbrev pub kept_lines : Album → List ℕ
-kept_lines k = lines_by k.captions.items (digests_of k.pictures.items)
-
--- each image that is kept has its caption
-abbrev pub IsPaired : Album → Type 0
-IsPaired k = length k.captions.items ≡ length k.pictures.items
+kept_lines k = lines_of (images k)
 
 -- the bytes of images
-abbrev pub picture_bytes : List (List ℕ) → ℕ
-picture_bytes ps = sum_by length ps
+abbrev pub image_bytes : List Image → ℕ
+image_bytes is = sum_by (λ i. length i.pixels) is
 
--- fewer than 64 images are kept, and they have less than 2^28 bytes, which are counted
+-- an album keeps at most 32 images that are being digested and 32 newer ones; each of these two has less than 2^27 bytes, and those of the newer are counted
+pub record IsHeld (k : Album) : Type 0 where
+  pub counted : k.size ≡ image_bytes (newer k.shown.items)
+  pub few : length k.shown.items ≤ 32
+  pub small : k.size < 2 ^ 27
+  pub older_few : length k.begun.items ≤ 32
+  pub older_small : image_bytes (older k.begun.items) < 2 ^ 27
+
+-- there is room for an image more: fewer than 32 are newer, and they have less than 2^26 bytes
 pub record IsSmall (k : Album) : Type 0 where
-  pub counted : k.size ≡ picture_bytes k.pictures.items
-  pub few : length k.pictures.items < 64
-  pub small : k.size < 2 ^ 28
+  pub held : IsHeld k
+  pub few : length k.shown.items < 32
+  pub small : k.size < 2 ^ 26
 
 -- no image is kept
 pub record IsBare (k : Album) : Type 0 where
-  pub captions : k.captions.items ≡ []
-  pub pictures : k.pictures.items ≡ []
+  pub begun : k.begun.items ≡ []
+  pub shown : k.shown.items ≡ []
   pub size : k.size ≡ 0
 
 -- the line of an image in its place
@@ -58,13 +83,11 @@ pub record TakesFrame (old new : Album) (text : List ℕ) (before after : Option
   pub asked : new.screen.asked ≡ old.screen.asked
   pub listing : new.screen.listing ≡ old.screen.listing
   pub count : new.screen.count ≡ old.screen.count + 1
-  pub paired : IsPaired new
   pub small : IsSmall new
   pub text_is : SoFar before after (kept_lines old ++ text) (kept_lines new)
 
--- few images are kept, each with its caption, and no rows are listed
+-- few images are kept, and no rows are listed
 pub record IsListed (k : Album) : Type 0 where
-  pub paired : IsPaired k
   pub small : IsSmall k
   pub plain_is : k.screen.listing.pixels ≡ false
 

@@ -2,11 +2,14 @@
 #![tactic(auto)]
 
 mod album;
+mod begun;
 mod decode;
 mod digest;
 mod fault;
 mod feed;
 mod group;
+mod hashing;
+mod shown;
 mod walk;
 
 pub use decode::{Framed, decode_all};

@@ -10,7 +10,7 @@ ghost use Rattle.gfx_player.specs.Faults.{of_decoder};
 ghost use Rattle.gfx_player.specs.Walks.{HasAll, IsAtBlock};
 ghost use Rattle.gfx_play.specs.Shows.{Answers, EndsOnly};
 ghost use Rattle.gfx_fan.specs.Gathered.{Gathering, IsFeedFault};
-ghost use Rattle.gfx_fan.specs.Kept.{IsBare, IsPaired, plain};
+ghost use Rattle.gfx_fan.specs.Kept.{IsBare, plain};
 ghost use Rattle.gfx_fan.specs.Walked.{Came, IsReady};
 
 use crate::album::Album;
@@ -132,7 +132,6 @@ impl Walk {
 
     /// Writes the lines of what is kept at the clean end of the file, and the number of frames.
     fn end<R: Threads + Sync, K: Sink>(&mut self, rt: &R, sink: &mut K) -> Result<(), PlayFault>
-        requires { IsPaired self.old.album }
         ensures told { (was : Player) → (shown : List Frame) → (file : Maybe (List ℕ)) → (middle : Maybe (List ℕ)) → (rest : Maybe (List ℕ)) → (before : Maybe (List ℕ))
             → Gathering was self.old.album shown file middle before (K.taken sink.old) → IfTold file rest (HasAll self.old.player shown)
             → IfTold file rest (Answers Asked.All false before (K.taken sink.new) result) }
@@ -151,7 +150,6 @@ impl Walk {
         sink: &mut K,
         why: DecodeFault,
     ) -> PlayFault
-        requires { IsPaired self.old.album }
         ensures told { (was : Player) → (shown : List Frame) → (file : Maybe (List ℕ)) → (middle : Maybe (List ℕ)) → (rest : Maybe (List ℕ)) → (before : Maybe (List ℕ))
             → Gathering was self.old.album shown file middle before (K.taken sink.old) → IfTold file rest (IsStopped shown (of_decoder why))
             → IfTold file rest (Answers Asked.All false before (K.taken sink.new) (Err result)) }

@@ -76,9 +76,6 @@ returns-in-Ok-None-clause-ok g c old next bytes file left rest before reads gath
           (λ fed done. took fed bytes done),
     )
 
-pub stop-requires : goal.stop-requires
-stop-requires g c = (c.type_bounds.sync-R, c.requires.ready.paired)
-
 pub returns-in-Err-clause-err : goal.returns-in-Err-clause-err
 returns-in-Err-clause-err g c old next bytes file left rest before reads gathered =
     let (shown, s) = gathered in

@@ -16,7 +16,6 @@ pictures-init g c =
     let text = kept ++ text_of places l c.args.frame.now in
     record {
       screen = refl;
-      paired = c.requires.ready.paired;
       small = c.requires.ready.small;
       written = subst (SoFar a a text) (ap (λ t. kept ++ t) (text_is places l c.args.frame.now ∙ ap (lines_from places l c.args.frame.now.number 1) (sym c.as_slice-pictures.ensures.value))) (so_far_none a text);
       later = omega arith;
@@ -49,7 +48,6 @@ pictures-preserved g c =
     let text = kept_lines c.args.self.now ++ text_of places l c.args.frame.now in
     record {
       screen = c.in_ok-take.ensures.screen ∙ c.pictures.invariant.screen;
-      paired = c.in_ok-take.ensures.paired;
       small = c.in_ok-take.ensures.small;
       written = so_far_step a b (g.K.Sink.taken c.take.new.sink) text (kept_lines c.pictures.self) _ _ (kept_lines c.take.new.self)
           (subst (SoFar a b text)
@@ -68,12 +66,16 @@ returns-clause-ok g c =
     let text = kept_lines c.args.self.now ++ text_of places l c.args.frame.now in
     let same = c.pictures.invariant.screen in
     let small = c.pictures.invariant.small in
+    let held = small.held in
     record {
       asked = ap (λ s. s.asked) same;
       listing = ap (λ s. s.listing) same;
       count = ap (λ s. s.count + 1) same;
-      paired = c.pictures.invariant.paired;
-      small = record { counted = small.counted; few = small.few; small = small.small };
+      small = record {
+        held = record { counted = held.counted; few = held.few; small = held.small; older_few = held.older_few; older_small = held.older_small };
+        few = small.few;
+        small = small.small;
+      };
       text_is = subst (SoFar a b text) (last_kept places l c.args.frame.now.number c.pictures.index c.as_slice-pictures.result.now (kept_lines c.pictures.self) (omega arith)) c.pictures.invariant.written;
     }
 

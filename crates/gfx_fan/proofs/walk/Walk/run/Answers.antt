@@ -1,6 +1,6 @@
 use Rattle.std.proofs.Common.{[], Ok, ap, arith}
 use Rattle.std.proofs.lemmas.Result.{err_from_is_err_and}
-use Rattle.gfx_fan.proofs.Rounds.{came_paired, is_ready}
+use Rattle.gfx_fan.proofs.Rounds.{is_ready}
 use Rattle.gfx_fan.proofs.walk.Walk.run.Goals as goal
 
 pub groups-init : goal.groups-init
@@ -23,26 +23,12 @@ returns-in_err-ending-clause-told g c file opened =
     let (shown, w) = c.groups.invariant.gathering file opened in
     rw (p.1, p.2) (c.in_err-ending.ensures.err shown _ _ w)
 
-pub end-requires : goal.end-requires
-end-requires g c =
-    let (file, opened) = c.requires.gathering in
-    let (shown, w) = c.groups.invariant.gathering file opened in
-    let (more, came) = c.in_ok-ending.ensures.ok shown _ _ w in
-    (c.type_bounds.sync-R, came_paired c.in_ok-ending.ending _ _ more _ _ _ _ came)
-
 pub returns-in-Clean-clause-told : goal.returns-in-Clean-clause-told
 returns-in-Clean-clause-told g c file opened =
     let (shown, w) = c.groups.invariant.gathering file opened in
     let (more, came) = c.in_ok-ending.ensures.ok shown _ _ w in
     let (was, middle, s, all) = rw c.in-Clean.is at came in
     c.end.ensures.told was more _ middle _ _ s all
-
-pub stop-requires : goal.stop-requires
-stop-requires g c =
-    let (file, opened) = c.requires.gathering in
-    let (shown, w) = c.groups.invariant.gathering file opened in
-    let (more, came) = c.in_ok-ending.ensures.ok shown _ _ w in
-    (c.type_bounds.sync-R, came_paired c.in_ok-ending.ending _ _ more _ _ _ _ came)
 
 pub returns-in-Stopped-clause-told : goal.returns-in-Stopped-clause-told
 returns-in-Stopped-clause-told g c file opened =
