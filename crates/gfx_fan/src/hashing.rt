@@ -8,6 +8,9 @@ use gfx_pages::Bytes;
 use std::snapshot::Snapshot;
 use std::thread::{Promise, PromisedHandle, Threads, spawn_with};
 
+// Fewer bytes are digested sooner than a thread is made.
+const WORTH_A_THREAD: u64 = 1 << 14;
+
 /// What a thread answers: the SHA-256 of these bytes.
 #[derive(Drop)]
 pub(crate) struct DigestOf(Snapshot<Bytes>);
@@ -16,17 +19,33 @@ impl Promise<Digest> for DigestOf {
     ghost kept_by = { λ of digest. digest ≡ sha256 of.0.value };
 }
 
-/// A digest that a thread is at work on, or that was found at once where no thread could be made.
+/// A digest that a thread is at work on, or that was found at once.
 #[derive(Drop)]
 pub(crate) enum Work {
     Thread(PromisedHandle<Digest, DigestOf>),
     Done(Digest),
 }
 
+impl Work {
+    /// Begins to digest these bytes in a thread. Where none can be made they are digested at once.
+    fn begin<R: Threads>(rt: &R, pixels: Bytes) -> Work
+        ensures { digest_of result ≡ sha256 pixels }
+    {
+        let promise = DigestOf(Snapshot::of(&pixels));
+        let digest = move || -> Digest
+            ensures { result ≡ sha256 pixels }
+        { pixels.digest() };
+        match spawn_with(rt, promise, digest) {
+            Ok(thread) => Work::Thread(thread),
+            Err(refused) => Work::Done((refused.value)()),
+        }
+    }
+}
+
 /// Bytes whose digest is being found.
 #[derive(Drop)]
 pub(crate) struct Hashing {
-    // the thread has the bytes themselves, and keeps them until it ends
+    // a thread has the bytes themselves, and keeps them until it ends
     pixels: Snapshot<Bytes>,
     work: Work,
     ghost right: { digest_of work ≡ sha256 pixels.value },
@@ -38,13 +57,10 @@ impl Hashing {
         ensures { result.pixels.value ≡ pixels }
     {
         let of = Snapshot::of(&pixels);
-        let promise = DigestOf(Snapshot::of(&pixels));
-        let digest = move || -> Digest
-            ensures { result ≡ sha256 pixels }
-        { pixels.digest() };
-        let work = match spawn_with(rt, promise, digest) {
-            Ok(thread) => Work::Thread(thread),
-            Err(refused) => Work::Done((refused.value)()),
+        let work = if pixels.length() < WORTH_A_THREAD {
+            Work::Done(pixels.digest())
+        } else {
+            Work::begin(rt, pixels)
         };
         Hashing { pixels: of, work }
     }
