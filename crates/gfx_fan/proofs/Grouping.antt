@@ -116,19 +116,19 @@ gives_at m stage end answer old new place told = subst (λ s. IfTold old new (Gi
 
 -- whether it is full, as it is looked at
 abbrev looks_full : (count long : ℕ) → Bool
-looks_full count long = nat_le 65536 count || nat_le (134217728 + 12 * count) long
+looks_full count long = nat_le 65536 count || nat_le (4194304 + 12 * count) long
 
-full_by : (count long size : ℕ) → long ≡ 12 * count + size → looks_full count long ≡ true → (65536 ≤ count) ⊎ (2 ^ 27 ≤ size)
+full_by : (count long size : ℕ) → long ≡ 12 * count + size → looks_full count long ≡ true → (65536 ≤ count) ⊎ (2 ^ 22 ≤ size)
 full_by count long size is full = by (nat_le 65536 count) refl
   where
-    by : (b : Bool) → nat_le 65536 count ≡ b → (65536 ≤ count) ⊎ (2 ^ 27 ≤ size)
+    by : (b : Bool) → nat_le 65536 count ≡ b → (65536 ≤ count) ⊎ (2 ^ 22 ≤ size)
     by true many = inl (grind (arith, nat_tests))
     by false few = inr (grind (arith, nat_tests))
 
 pub is_full : (g : Group) → IsLimited g → looks_full (length g.places.items) (length g.bytes.items) ≡ true → IsFull g
 is_full g w full = full_by (length g.places.items) (length g.bytes.items) (payload_bytes g.places.items) w.long full
 
-few_by : (count long : ℕ) → looks_full count long ≡ false → (count < 65536) × (long < 134217728 + 12 * count)
+few_by : (count long : ℕ) → looks_full count long ≡ false → (count < 65536) × (long < 4194304 + 12 * count)
 few_by count long under = (grind (arith, nat_tests), grind (arith, nat_tests))
 
 -- a group that is full has some blocks
@@ -136,7 +136,7 @@ pub full_some : (g : Group) → IsFull g → 0 < length g.places.items
 full_some g (inl many) = omega (arith, many)
 full_some g (inr much) = by g.places.items much
   where
-    by : (fs : List Framed) → 2 ^ 27 ≤ payload_bytes fs → 0 < length fs
+    by : (fs : List Framed) → 2 ^ 22 ≤ payload_bytes fs → 0 < length fs
     by [] much = absurd (omega (arith, much))
     by (f ∷ fs) much = omega arith
 

@@ -52,15 +52,15 @@ HasBlocks g at end = AreKept at 0 g.bytes.items g.places.items g.spots.items end
 abbrev pub payload_bytes : List Framed → ℕ
 payload_bytes fs = sum_by (λ f. f.framing.size) fs
 
--- a group has at most 65,536 blocks, and keeps twelve bytes beside the payload of each; the payloads before the last have less than 2^27 bytes, and no payload has more
+-- a group has at most 65,536 blocks, and keeps twelve bytes beside the payload of each; the payloads before the last have less than 2^22 bytes, and no payload has more than 2^27
 pub record IsLimited (g : Group) : Type 0 where
   pub few : length g.places.items ≤ 65536
   pub long : length g.bytes.items ≡ 12 * length g.places.items + payload_bytes g.places.items
-  pub small : payload_bytes g.places.items < 2 ^ 27 + 2 ^ 27
+  pub small : payload_bytes g.places.items < 2 ^ 22 + 2 ^ 27
 
--- it has as many blocks as it may have, or their payloads 2^27 bytes or more
+-- it has as many blocks as it may have, or their payloads 2^22 bytes or more
 abbrev pub IsFull : Group → Type 0
-IsFull g = (65536 ≤ length g.places.items) ⊎ (2 ^ 27 ≤ payload_bytes g.places.items)
+IsFull g = (65536 ≤ length g.places.items) ⊎ (2 ^ 22 ≤ payload_bytes g.places.items)
 
 -- why there is no further block in a group, where the next would stand: enough were read, the file ends, or the next has a fault
 abbrev pub Ends : ℕ → Position → Ending → Stage → Option (List ℕ) → Option (List ℕ) → Type 0

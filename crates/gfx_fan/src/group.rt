@@ -14,10 +14,11 @@ use gfx_io::Source;
 use gfx_player::Player;
 use std::alloc::{AllocError, Global};
 
-// A group has at most so many blocks, and no further one once their payloads have so many bytes.
+// A group has at most so many blocks, and no further one once their payloads have so many bytes. The next group is read while images
+// of this one are digested, so a large one would only put off the first of them.
 const MOST_BLOCKS: usize = 65_536;
 
-const MOST_BYTES: usize = 1 << 27;
+const MOST_BYTES: usize = 1 << 22;
 
 // The bytes of a block's size and type, which stand before its payload.
 const HEAD: usize = 12;
