@@ -1,12 +1,9 @@
 -- Ids that a caller drew, and effects that create none.
-use Rattle.std.proofs.Common.{◌≡◌, ℕ, ◌+◌, ◌<◌, ◌==◌, List, [], ◌∷◌, ◌++◌, ap, sym, subst, refl, ◌∙◌, arith, eq-eqb, ne_eqb}
-use Rattle.std.proofs.lemmas.Grind.{flat_map-append}
+use Rattle.std.proofs.Common.{◌≡◌, ℕ, ◌<◌, ◌==◌, List, [], ◌∷◌, ◌++◌, ap, subst, refl, arith, eq-eqb, ne_eqb}
 use mathlib.Core.Logic.{dite}
 use native.Mathlib.Decide.{ℕ_discrete}
-use Rattle.gfx_model.specs.Events.{Event}
 use Rattle.gfx_seats.specs.Entries.{weight, times, AreAmong}
 use Rattle.gfx_seats.proofs.Totals.{times-append}
-use Rattle.gfx_capture.specs.Entry.{event_ids, named_ids}
 
 -- the id that was drawn last was drawn
 pub last_drawn : (drawn : List ℕ) (x : ℕ) → 0 < times x (drawn ++ x ∷ [])

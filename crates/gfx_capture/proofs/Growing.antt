@@ -1,7 +1,7 @@
 -- An append adds entries of its thread, which create ids of the buffer alone.
-use Rattle.std.proofs.Common.{◌≡◌, ℕ, ◌<◌, All, List, [], ◌∷◌, take, length, refl, arith, Ok, Err, Result}
+use Rattle.std.proofs.Common.{ℕ, All, List, [], ◌∷◌, take, length, refl, arith, Ok, Err, Result}
 use Rattle.std.proofs.lemmas.List.Elements.{All-nil, All-cons, All-map, All-take}
-use Rattle.gfx_seats.specs.Entries.{times, AreAmong, IsEntryOf, Adds}
+use Rattle.gfx_seats.specs.Entries.{AreAmong, IsEntryOf, Adds}
 use Rattle.gfx_seats.proofs.Totals.{times-append}
 use Rattle.gfx_model.specs.Events.{Event}
 use Rattle.gfx_script_model.specs.Runs.{Entry}

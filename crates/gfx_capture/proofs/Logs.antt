@@ -15,7 +15,6 @@ use Rattle.gfx_model.specs.Meaning.{Means}
 use Rattle.gfx_script_model.specs.Runs.{Entry, history, history_onto, log_bytes, log_length}
 use Rattle.gfx_model.proofs.Steps.{view-event}
 use Rattle.gfx_tracker.specs.Taking.{after_event}
-use Rattle.gfx_tracker.specs.Outcome.{rule_of}
 use Rattle.gfx_tracker.specs.declared.outcome.ApplyFault.{ApplyFault}
 use Rattle.gfx_tracker.specs.declared.outcome.ApplyFault.TheVariants as apply
 use Rattle.gfx_capture.specs.declared.answer.BlockFault.{BlockFault}

@@ -1,5 +1,5 @@
 -- A pass that makes new ids finds none of them taken.
-use Rattle.std.proofs.Common.{◌≡◌, ℕ, zero, suc, ◌+◌, ◌<◌, ◌==◌, Bool, true, List, [], ◌∷◌, ◌++◌, take, length, Some, slice_get, sym, ap, ◌∙◌, subst, arith, append-nil, inl, inr, Ok, Err, Result}
+use Rattle.std.proofs.Common.{◌≡◌, ℕ, zero, suc, ◌<◌, ◌==◌, true, List, [], ◌∷◌, ◌++◌, take, Some, slice_get, sym, ap, ◌∙◌, subst, arith, append-nil, inl, inr, Ok, Err, Result}
 use Rattle.std.proofs.lemmas.Bool.{or_cases}
 use Rattle.gfx_types.specs.declared.names.Fault.TheVariants.{IdTaken}
 use Rattle.gfx_model.specs.Events.{Event}

@@ -1,5 +1,5 @@
 -- A batch has its place: what the turn, the append and leaving tell together.
-use Rattle.std.proofs.Common.{◌≡◌, ℕ, ◌+◌, ◌<◌, ◌≤◌, Bool, true, false, List, [], ◌∷◌, ◌++◌, take, length, sym, refl, ap, ◌∙◌, subst, arith, append-nil, append_assoc, length-append, Result, Ok, Err}
+use Rattle.std.proofs.Common.{◌≡◌, ℕ, ◌+◌, ◌≤◌, Bool, true, false, List, [], ◌∷◌, ◌++◌, take, length, sym, refl, ap, ◌∙◌, subst, arith, append-nil, append_assoc, length-append, Result, Ok, Err}
 use Rattle.std.proofs.lemmas.List.{append_cancel_left, length-map, length-take-le}
 use mathlib.Core.List.{IsPrefix}
 use Rattle.gfx_types.specs.declared.names.Fault.{Fault}

@@ -1,5 +1,5 @@
 -- What a call and a batch tell the pass that made it.
-use Rattle.std.specs.Prelude.{◌≡◌, ◌≢◌, ℕ, ◌+◌, ◌<◌, ◌≤◌, true, List, [], ◌++◌, length, take, Result, Ok, Err}
+use Rattle.std.specs.Prelude.{◌≡◌, ◌≢◌, ℕ, ◌+◌, ◌<◌, ◌≤◌, true, List, ◌++◌, length, take, Result, Ok, Err}
 use mathlib.Core.List.{IsPrefix}
 use Rattle.gfx_types.specs.declared.names.Fault.TheVariants.{IdTaken}
 use Rattle.gfx_model.specs.Events.{Event}

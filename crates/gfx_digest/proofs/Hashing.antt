@@ -1,5 +1,5 @@
 -- Frames that are hashed one after another, and how hashing ends.
-use Rattle.std.proofs.Common.{◌≡◌, ◌≢◌, ◌+◌, ◌-◌, ℕ, Bool, true, false, if◌then◌else◌, List, [], ◌∷◌, ◌++◌, length, Option, None, Result, Ok, Err, refl, sym, ap, subst, ◌∙◌}
+use Rattle.std.proofs.Common.{◌≡◌, ◌+◌, ◌-◌, ℕ, Bool, true, false, if◌then◌else◌, List, [], ◌∷◌, ◌++◌, length, Option, Ok, Err, refl, sym, ap, subst, ◌∙◌}
 use Rattle.std.proofs.lemmas.List.{append-nil}
 use Rattle.std.proofs.lemmas.Grind.{flat_map-append}
 use Rattle.sha2.specs.Hashers.{Holds256}
@@ -16,10 +16,9 @@ use Rattle.gfx_player.specs.declared.fault.PlayFault.TheVariants as play
 use Rattle.gfx_player.specs.declared.player.Player.{Player}
 use Rattle.gfx_player.specs.Asked.{asked_of, has_last, is_asked, is_last}
 use Rattle.gfx_player.specs.Ends.{IsBehindFrame, IsStopped}
-use Rattle.gfx_player.specs.Meanings.{frames_in}
 use Rattle.gfx_player.specs.Walks.{HasAll, Plays, ShowsNext, first_frame_of, next_frame_of}
 use Rattle.gfx_player.proofs.Asking.{asked_more, behind_last, count_more, first_with, if_asked, last_more, one_if}
-use Rattle.gfx_player.proofs.Later.{LastShown, last_shown}
+use Rattle.gfx_player.proofs.Later.{last_shown}
 use Rattle.gfx_player.proofs.Playing.{first_is, highest_is, lowest_is, told_beside}
 use Rattle.gfx_digest.specs.declared.digest.Digested.{Digested}
 use Rattle.gfx_digest.specs.declared.hasher.FrameHasher.{FrameHasher}

@@ -1,5 +1,5 @@
 -- What is to come of lines with their writes gathered, told by the fills of what is held.
-use Rattle.std.proofs.Common.{◌≡◌, ℕ, ◌+◌, ◌<◌, ◌≤◌, suc, nat_le, Bool, true, false, ◌&&◌, cond, List, [], ◌∷◌, ◌++◌, map, length, drop, get_or, Option, Some, None, sym, refl, ap, subst, ◌∙◌, arith, append_assoc, append-nil}
+use Rattle.std.proofs.Common.{◌≡◌, ℕ, ◌+◌, ◌<◌, suc, nat_le, Bool, true, false, ◌&&◌, cond, List, [], ◌∷◌, ◌++◌, length, drop, get_or, Option, Some, None, sym, refl, ap, subst, ◌∙◌, arith, append_assoc}
 use Rattle.std.specs.Prelude.{MatchOption, MatchBool}
 use Rattle.std.specs.List.{AllByRecursion}
 use Rattle.std.proofs.lemmas.Bool.{and_parts, leb-true}
@@ -10,7 +10,7 @@ use Rattle.gfx_script_model.specs.Scripts.{Line}
 use Rattle.gfx_shadow.specs.Writes.{Write, fills, firsts, MayHold, memory_limit, write_of}
 use Rattle.gfx_shadow.specs.Gathered.{held_of, ends_holding, event_of_write, gathered_after, gathered, last_number}
 use Rattle.gfx_shadow.proofs.Serve.{fills_serve}
-use Rattle.gfx_gather.specs.Gathering.{fill_line, fills_at, Takes}
+use Rattle.gfx_gather.specs.Gathering.{fills_at, Takes}
 
 -- the lines after some that left these fills
 unfoldable pub ahead : ℕ → List Write → List Line → List Line

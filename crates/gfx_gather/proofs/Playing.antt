@@ -1,7 +1,6 @@
 -- A script that can be run can be run with the writes of its threads gathered.
-use Rattle.std.proofs.Common.{◌≡◌, ◌⊎◌, ℕ, ◌+◌, ◌<◌, ◌≤◌, ◌^◌, ◌==◌, Bool, true, false, ◌||◌, List, [], ◌∷◌, ◌++◌, map, length, Option, Some, None, sym, refl, ap, subst, ◌∙◌, arith, append_assoc, append-nil, length-append}
+use Rattle.std.proofs.Common.{◌≡◌, ℕ, ◌+◌, ◌<◌, ◌≤◌, ◌^◌, ◌==◌, Bool, true, false, ◌||◌, List, [], ◌∷◌, ◌++◌, map, length, Option, Some, None, sym, refl, ap, subst, ◌∙◌, arith, append-nil, length-append}
 use Rattle.std.specs.List.{AllByRecursion}
-use Rattle.gfx_model.specs.Events.{Event}
 use Rattle.gfx_model.specs.Spelling.{fields_of, type_of}
 use Rattle.gfx_section_law.proofs.Sizes.{fill_small}
 use Rattle.gfx_script_model.specs.Ids.{uses_of, defines_of, map_ids}

@@ -1,11 +1,11 @@
 -- The fills of held writes are short, and of memories and bytes that the writes have.
-use Rattle.std.proofs.Common.{◌≡◌, ◌⊎◌, inl, inr, ℕ, zero, suc, ◌+◌, ◌-◌, ◌<◌, ◌≤◌, Bool, true, false, cond, List, [], ◌∷◌, ◌++◌, map, filter, flat_map, length, slice_index, Option, Some, None, not, ◌==◌, sym, refl, ap, subst, ◌∙◌, arith}
+use Rattle.std.proofs.Common.{◌≡◌, inl, inr, ℕ, zero, suc, ◌+◌, ◌-◌, ◌<◌, ◌≤◌, Bool, true, false, cond, List, [], ◌∷◌, ◌++◌, map, filter, length, slice_index, Option, Some, None, not, ◌==◌, sym, ap, subst, ◌∙◌, arith}
 use Rattle.std.specs.List.{AllByRecursion}
 use Rattle.std.specs.Option.{option_or}
 use Rattle.std.proofs.lemmas.Bool.{cases_lt}
 use Rattle.gfx_shadow.specs.Writes.{Write, Run, MayHold, covers, byte_of, held_byte, runs, in_memory, firsts, memories, reach, fills_below, fills, memory_limit, window_size}
-use Rattle.gfx_shadow.specs.Longest.{IsLongest, AreLongest}
-use Rattle.gfx_shadow.proofs.Bytes.{given, held_byte-cons, held_byte-nil}
+use Rattle.gfx_shadow.specs.Longest.{IsLongest}
+use Rattle.gfx_shadow.proofs.Bytes.{held_byte-cons, held_byte-nil}
 use Rattle.gfx_shadow.proofs.Fills.{beyond_reach}
 use Rattle.gfx_shadow.proofs.Longest.{runs_are_longest}
 

@@ -1,5 +1,5 @@
 -- The lines that stand for held writes, and what a line adds to them.
-use Rattle.std.specs.Prelude.{◌≡◌, ℕ, List, [], ◌∷◌, ◌++◌, map, Some, None, MatchOption, MatchBool}
+use Rattle.std.specs.Prelude.{◌≡◌, ℕ, List, [], ◌∷◌, ◌++◌, map, MatchOption, MatchBool}
 use Rattle.gfx_script_model.specs.Scripts.{Line}
 use Rattle.gfx_shadow.specs.Writes.{Write, fills}
 use Rattle.gfx_shadow.specs.Gathered.{held_of, ends_holding, event_of_write}

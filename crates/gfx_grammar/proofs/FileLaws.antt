@@ -6,13 +6,12 @@ use Rattle.std.proofs.lemmas.List.{length-map}
 use Rattle.gfx_model.specs.Events.{Event}
 use Rattle.gfx_model.specs.Events.Event.{BeginSection, EndSection}
 use Rattle.gfx_model.specs.Spelling.{encoding, header}
-use Rattle.gfx_model.specs.Blocks.{Position, Whole, End, first_position, is_marker, is_inside, side_count, next_position}
+use Rattle.gfx_model.specs.Blocks.{Position, Whole, first_position, is_marker, is_inside, side_count, next_position}
 use Rattle.gfx_grammar.specs.Reads.{AreBytes}
-use Rattle.gfx_grammar.specs.Splitting.{blocks_from, blocks_of}
-use Rattle.gfx_grammar.specs.Framing.{IsBlock, Part, place_after, HaveRoom, CanBeWritten, made_part, part_of, file_parts, IsUnmarked, says_begin, Splits}
+use Rattle.gfx_grammar.specs.Splitting.{blocks_of}
+use Rattle.gfx_grammar.specs.Framing.{IsBlock, Part, place_after, HaveRoom, CanBeWritten, made_part, part_of, file_parts, IsUnmarked, says_begin}
 use Rattle.gfx_grammar.specs.Laws.{FileIsRead, FileHasRoom}
 use Rattle.gfx_grammar.proofs.SaidLaws.{block-says}
-use Rattle.gfx_grammar.proofs.SplitLaws.{splits_in_one_way}
 use Rattle.gfx_grammar.proofs.RoomLaws.{room-append, inside-room, outside-room}
 use Rattle.gfx_grammar.proofs.WrittenLaws.{encoding-block, encoding-says, header-good, header-minor, blocks_of-parts}
 

@@ -1,5 +1,5 @@
 -- How often calls of a list of numbers have failed, one more call counted.
-use Rattle.std.proofs.Common.{◌≡◌, zero, suc, ℕ, ◌+◌, ◌-◌, ◌^◌, ◌≤◌, ◌<◌, ◌⊎◌, min, Bool, ◌&&◌, nat_le, cond, List, [], ◌∷◌, arith, sym, refl, le_refl, inl, inr, subst, Err}
+use Rattle.std.proofs.Common.{◌≡◌, zero, suc, ℕ, ◌+◌, ◌≤◌, ◌&&◌, nat_le, cond, List, [], ◌∷◌, arith, refl, le_refl}
 use Rattle.std.specs.Prelude.{Contains}
 use Rattle.std.proofs.lemmas.List.Sums.{sum_by-cons}
 use Rattle.gfx_io.specs.Memory.{listed_calls}

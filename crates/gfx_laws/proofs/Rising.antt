@@ -1,11 +1,8 @@
 -- Rising lists: with the same numbers they are the same, and with fewer numbers they have smaller sums.
-use Rattle.std.proofs.Common.{◌≡◌, ℕ, ◌+◌, ◌<◌, ◌≤◌, true, false, refl, sym, ◌∙◌, ap, subst, List, [], ◌∷◌, ◌==◌, length, sum_by, arith, ◌⊎◌, inl, inr}
+use Rattle.std.proofs.Common.{◌≡◌, ℕ, ◌<◌, true, subst, List, [], ◌∷◌, ◌==◌, ◌⊎◌, inl, inr}
 use Rattle.std.specs.List.{AllByRecursion}
-use Rattle.std.proofs.lemmas.List.Sums.{sum_by-cons}
-use Rattle.std.proofs.lemmas.Bool.{eqb-true, eqb-false, eq-eqb, ne_eqb, or_cases, or_left, or_right, both_ways}
+use Rattle.std.proofs.lemmas.Bool.{eqb-true, or_cases}
 use Rattle.gfx_model.specs.Checks.{is_among}
-use Rattle.gfx_laws.specs.Lawful.{IsRising}
-use Rattle.gfx_laws.proofs.Cases.{by_test}
 
 -- a number of a list that others are below is above them
 pub above_each : (x y : ℕ) (xs : List ℕ) → AllByRecursion (λ z. x < z) xs → is_among y xs ≡ true → x < y

@@ -12,18 +12,14 @@ use Rattle.gfx_feature_model.specs.Lean.{event_in, events_in}
 use Rattle.gfx_asked.specs.Law.{StandFor}
 use Rattle.gfx_asked.proofs.Stand.{accesses_stand}
 use Rattle.gfx_needed.specs.NeededIds.{IsSearched}
-use Rattle.gfx_player.specs.Faults.{IsReplayFault}
 use Rattle.gfx_model.specs.Frames.{frames}
 use Rattle.gfx_player.specs.Fed.{history_of}
 use Rattle.gfx_player.specs.Meanings.{first_of}
 use Rattle.gfx_replay.specs.Replayer.{StandsFor}
 use Rattle.gfx_player.specs.Walks.{HasReplayed, IsReplayedAlike}
-use Rattle.gfx_player.specs.Walks as walk
-use Rattle.gfx_player.specs.declared.fault.PlayFault.{PlayFault}
-use Rattle.gfx_player.specs.declared.fault.PlayFault.TheVariants as play
 use Rattle.gfx_player.specs.declared.player.Player.{Player}
 use Rattle.gfx_player.proofs.Walking.{history_more, replayed_alike}
-use Rattle.gfx_range.specs.Follower.{Followed, Follows, Refuses}
+use Rattle.gfx_range.specs.Follower.{Followed, Follows}
 use Rattle.gfx_range.specs.Range.{IsFresh, IsGathered, IsSameNeed}
 use Rattle.gfx_range.specs.declared.follower.Follower.{Follower}
 use Rattle.gfx_range.specs.declared.range.Range.{Range}

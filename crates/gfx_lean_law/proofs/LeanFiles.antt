@@ -11,7 +11,7 @@ use Rattle.gfx_model.specs.History.{onto, view, is_valid}
 use Rattle.gfx_model.specs.Frames.{frames}
 use Rattle.gfx_model.specs.Meaning.{Means, events_onto, has_frame}
 use Rattle.gfx_model.specs.Trimmed.{Cut, boundary, has_boundary, history_to, range_from, file_of}
-use Rattle.gfx_feature_model.specs.Lean.{Keep, KeepsNeeded, IsLean, kept_section}
+use Rattle.gfx_feature_model.specs.Lean.{Keep, KeepsNeeded, kept_section}
 use Rattle.gfx_feature_model.specs.Lean as lean
 use Rattle.gfx_model.proofs.Cutting.{cut_follows}
 use Rattle.gfx_grammar.specs.Framing.{part_of, HaveRoom}

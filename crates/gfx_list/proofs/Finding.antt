@@ -1,21 +1,16 @@
 -- Where the first line feed stands in what was read.
-use Rattle.std.proofs.Common.{◌≡◌, ℕ, zero, suc, ◌+◌, ◌-◌, ◌<◌, ◌≤◌, ◌==◌, not, Bool, true, false, List, [], ◌∷◌, ◌++◌, length, take, drop, get_or, ◌⊎◌, Option, Some, None, inl, inr, refl, sym, ap, subst, ◌∙◌, arith, append_assoc, length-drop, length-take-le, take-append-drop}
-use Rattle.std.specs.Prelude.{MatchOption, Err}
-use Rattle.std.specs.Io.KnownBytes.{Consumes, IsAtEnd, Keeps}
-use Rattle.std.proofs.KnownBytes.{Consumes-nil, Consumes-trans}
+use Rattle.std.proofs.Common.{◌≡◌, ℕ, zero, suc, ◌+◌, ◌-◌, ◌<◌, ◌≤◌, ◌==◌, not, Bool, true, false, List, [], ◌∷◌, ◌++◌, length, take, drop, get_or, Option, Some, None, refl, sym, ap, subst, ◌∙◌, arith, append_assoc, length-drop, take-append-drop}
+use Rattle.std.specs.Prelude.{MatchOption}
+use Rattle.std.specs.Io.KnownBytes.{Consumes, Keeps}
 use Rattle.std.proofs.Math.Seq.{split_at, take-add}
 use Rattle.std.proofs.lemmas.Bool.{eqb-true, and_from}
-use Rattle.std.proofs.lemmas.List.{append-nil, drop-drop, nil_from_length, take_at, take_rest}
+use Rattle.std.proofs.lemmas.List.{append-nil, drop-drop, take_rest}
 use borrow.Rule.Slice.PartMut.{put_mid}
-use Rattle.gfx_decode.specs.Reading.{ReadsSome}
 use Rattle.gfx_decode.proofs.Buffer.{piece_behind}
 use Rattle.gfx_text_grammar.specs.Splits.{is_without}
 use Rattle.gfx_text_grammar.proofs.SplitLaws.{without-append}
 use Rattle.memchr.specs.Find.{IsFirstByte, NoneBefore, Nowhere, Passes, is_byte}
-use Rattle.gfx_listing_law.specs.Fronts.{IsLongLine, max_line_bytes}
-use Rattle.gfx_list.specs.Lines.{EndsInLine, Finds, FindsFeed, HasLineTo, IsUngiven, Reads}
-use Rattle.gfx_list.specs.declared.fault.UnlistFault.{UnlistFault}
-use Rattle.gfx_list.specs.declared.fault.UnlistFault.TheVariants.{BadListing, ReadFault, SinkFault, WantMemory}
+use Rattle.gfx_list.specs.Lines.{HasLineTo}
 
 -- ---- a byte that is searched
 

@@ -1,5 +1,5 @@
 -- What the first lines of a text list.
-use Rattle.std.proofs.Common.{◌≡◌, ◌⊎◌, inl, inr, ℕ, ◌+◌, ◌<◌, ◌≤◌, ◌^◌, Bool, true, false, cond, List, [], ◌∷◌, ◌++◌, length, flat_map, Option, Some, None, sym, refl, ap, subst, ◌∙◌, arith, append_assoc, append-nil, length-append}
+use Rattle.std.proofs.Common.{◌≡◌, ◌⊎◌, inl, inr, ℕ, ◌<◌, ◌^◌, Bool, true, false, cond, List, [], ◌∷◌, ◌++◌, length, flat_map, Option, Some, None, sym, refl, ap, subst, ◌∙◌, arith, append_assoc, append-nil, length-append}
 use Rattle.std.specs.Prelude.{is_some}
 use Rattle.std.specs.List.{AllByRecursion}
 use Rattle.std.specs.Option.{option_map_or}
@@ -7,8 +7,8 @@ use Rattle.std.proofs.lemmas.List.{append_cancel_left}
 use Rattle.std.proofs.lemmas.Bool.{cond-true, cond-false}
 use Rattle.std.proofs.lemmas.List.Concat.{flat_map-append}
 use Rattle.gfx_model.specs.Text.{line}
-use Rattle.gfx_model.specs.Blocks.{Whole, minor_of, clean}
-use Rattle.gfx_feature_model.specs.Listing.{IsListing, listing_of, block_text}
+use Rattle.gfx_model.specs.Blocks.{minor_of}
+use Rattle.gfx_feature_model.specs.Listing.{IsListing}
 use Rattle.gfx_grammar.specs.Framing.{Part}
 use Rattle.gfx_grammar.specs.Reading.{◌>>=◌}
 use Rattle.gfx_grammar.specs.Reads.{AreBytes}

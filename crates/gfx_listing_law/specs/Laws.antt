@@ -1,12 +1,12 @@
 -- Laws of the lines of listings, which functions with empty bodies promise.
-use Rattle.std.specs.Prelude.{◌≡◌, ◌⊎◌, ◌<◌, ℕ, true, List, [], ◌++◌, length, Some}
+use Rattle.std.specs.Prelude.{◌≡◌, ◌⊎◌, ◌<◌, ℕ, true, List, ◌++◌, length, Some}
 use Rattle.gfx_feature_model.specs.Listing.{IsListing}
 use Rattle.gfx_grammar.specs.Framing.{Part}
 use Rattle.gfx_grammar.specs.Reads.{AreBytes}
 use Rattle.gfx_text_grammar.specs.Lines.{read_line}
 use Rattle.gfx_text_grammar.specs.Listings.{read_header}
 use Rattle.gfx_text_grammar.specs.Splits.{is_without}
-use Rattle.gfx_listing_law.specs.Fronts.{BeginsWith, IsBadAtLine, IsCutLine, IsLongLine, IsNoLine, bytes_in, max_line_bytes, unlisted}
+use Rattle.gfx_listing_law.specs.Fronts.{BeginsWith, IsBadAtLine, IsLongLine, IsNoLine, bytes_in, max_line_bytes, unlisted}
 
 -- no line of a header or of a block is too long
 abbrev pub LinesAreShort : Type 0

@@ -1,6 +1,6 @@
 -- What follows a frame does not matter for the frames up to it: frame numbers rise, and a section begins at the start alone.
 use Rattle.std.proofs.Common.{◌≡◌, ℕ, ◌+◌, ◌^◌, ◌<◌, ◌≤◌, arith, ◌&&◌, Bool, true, false, cond, nat_le, ◌==◌, ◌||◌, refl, sym, ◌∙◌, ap, subst, List, [], ◌∷◌, ◌++◌, map, flat_map, Option, Some, None, append_assoc, append-nil, is_some}
-use Rattle.std.specs.List.{AllByRecursion, list_any}
+use Rattle.std.specs.List.{AllByRecursion}
 use Rattle.std.proofs.lemmas.Bool.{eqb-true, lt-leb}
 use Rattle.gfx_model.specs.Laws.{WhatFollows}
 use Rattle.gfx_model.proofs.Lists.{all_append, all_map, all_flat_map, all_along, filter_append, filter_none, any_append}

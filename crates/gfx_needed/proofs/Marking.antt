@@ -1,11 +1,11 @@
 -- Marks that grow.
-use Rattle.std.proofs.Common.{◌≡◌, ℕ, ◌+◌, ◌≤◌, Bool, true, false, not, cond, refl, sym, ◌∙◌, ap, subst, arith, List, [], ◌∷◌, ◌++◌, length, length-append, ◌==◌, ◌||◌, ◌⊎◌, inl, inr}
+use Rattle.std.proofs.Common.{◌≡◌, ℕ, ◌+◌, ◌≤◌, Bool, true, false, not, cond, refl, sym, ◌∙◌, ap, subst, arith, List, [], ◌∷◌, ◌++◌, length, length-append, ◌==◌, ◌||◌, inl, inr}
 use Rattle.std.specs.Prelude.{Contains, count_by}
 use Rattle.std.proofs.lemmas.Bool.{both_ways, eq-eqb, eqb-true, or_cases, or_left, or_right}
 use Rattle.std.proofs.lemmas.List.Sums.{sum_by-cons}
 use Rattle.gfx_model.specs.Checks.{is_among}
 use Rattle.gfx_model.specs.Views.{View}
-use Rattle.gfx_lean_law.proofs.Contained.{contains_before, contains_behind, contains_here, contains_none, contains_one, contains_split}
+use Rattle.gfx_lean_law.proofs.Contained.{contains_before, contains_behind, contains_here, contains_one, contains_split}
 use Rattle.gfx_needed.specs.NeededIds.{Marks, is_marked, is_there}
 use Rattle.gfx_needed.specs.declared.needed.NeededIds.{NeededIds}
 

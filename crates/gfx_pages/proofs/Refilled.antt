@@ -9,7 +9,7 @@ use Rattle.std.proofs.lemmas.List.Edits.{length-between, get_or-between}
 use Rattle.gfx_model.specs.Section.{nonzero}
 use Rattle.gfx_pages.specs.declared.bytes.Span.{Span}
 use Rattle.gfx_pages.specs.Lists.{overwrite}
-use Rattle.gfx_pages.specs.Fills.{fills, refilled, IsSpanBelow, FillsGive}
+use Rattle.gfx_pages.specs.Fills.{refilled, IsSpanBelow, FillsGive}
 use Rattle.gfx_pages.proofs.Sized.{span_of, page_fill, fills_of, fills_are}
 use Rattle.gfx_pages.proofs.Scans.{HasSpan, has_span, span_is}
 

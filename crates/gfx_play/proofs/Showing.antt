@@ -1,5 +1,5 @@
 -- Frames that are shown one after another, and how showing ends.
-use Rattle.std.proofs.Common.{◌≡◌, ◌+◌, ◌-◌, inr, codes, ℕ, Bool, true, false, if◌then◌else◌, List, [], ◌∷◌, ◌++◌, length, Option, None, Result, Ok, Err, refl, sym, ap, subst, ◌∙◌}
+use Rattle.std.proofs.Common.{◌≡◌, ◌+◌, ◌-◌, codes, ℕ, Bool, true, false, List, [], ◌∷◌, ◌++◌, length, Option, Result, Ok, Err, refl, sym, ap, subst, ◌∙◌}
 use Rattle.std.specs.Prelude.{OnOk, IfErr}
 use Rattle.std.specs.Io.KnownBytes.{Appends}
 use Rattle.gfx_io.specs.Pieces.{AppendsPart}
@@ -18,11 +18,11 @@ use Rattle.gfx_player.specs.declared.fault.PlayFault.{PlayFault}
 use Rattle.gfx_player.specs.declared.fault.PlayFault.TheVariants as play
 use Rattle.gfx_player.specs.declared.player.Player.{Player}
 use Rattle.gfx_player.specs.Asked.{asked_of, has_last, is_asked, is_last}
-use Rattle.gfx_player.specs.Ends.{IsBehindFrame, IsStopped, ShowsFirst}
+use Rattle.gfx_player.specs.Ends.{IsBehindFrame, IsStopped}
 use Rattle.gfx_player.specs.Faults.{IsUnwritten}
 use Rattle.gfx_player.specs.Meanings.{frames_in}
 use Rattle.gfx_player.specs.Walks.{HasAll, Plays, ShowsNext, first_frame_of, next_frame_of}
-use Rattle.gfx_player.proofs.Asking.{behind_last, count_more, first_with, last_more, one_if}
+use Rattle.gfx_player.proofs.Asking.{behind_last, count_more, last_more, one_if}
 use Rattle.gfx_player.proofs.Later.{LastShown, last_shown, never_last}
 use Rattle.gfx_player.proofs.Playing.{first_is, highest_is, lowest_is, plays_first, told_beside}
 use Rattle.gfx_play.specs.declared.screen.Screen.{Screen}

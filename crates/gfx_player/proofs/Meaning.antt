@@ -1,18 +1,14 @@
 -- What is computed of bytes is what the definitions say.
 use Rattle.std.proofs.Common.{◌≡◌, ℕ, List, Some, refl, ap, subst, ◌∙◌, sym}
-use Rattle.gfx_types.specs.declared.frame.Frame.{Frame}
-use Rattle.gfx_model.specs.Events.{Event}
-use Rattle.gfx_model.specs.Blocks.{End}
 use Rattle.gfx_model.specs.Frames.{frames}
-use Rattle.gfx_model.specs.Meaning.{Means}
-use Rattle.gfx_model.specs.Spelling.{Spells, id_of, type_of}
+use Rattle.gfx_model.specs.Spelling.{type_of}
 use Rattle.gfx_grammar.proofs.BlockLaws.{blocks_are_computed}
 use Rattle.gfx_grammar.proofs.EventLaws.{read_is_spelled, spelled_is_read}
 use Rattle.gfx_grammar.specs.Reads.{AreBytes}
 use Rattle.gfx_grammar.specs.Rows.{read_event}
 use Rattle.gfx_grammar.specs.Splitting.{Blocks, blocks_of}
 use Rattle.gfx_player.specs.Laws.{CallsAreSpelled, HasBlocks, HasMeaning, MeaningIsComputed}
-use Rattle.gfx_player.specs.Meanings.{end_of, frames_in, judged_of}
+use Rattle.gfx_player.specs.Meanings.{judged_of}
 
 has_blocks : (bytes : List ℕ) → AreBytes bytes → HasBlocks bytes
 has_blocks bytes fit = let b = blocks_are_computed bytes fit in record { are = b.0; only = b.1 }

@@ -1,9 +1,8 @@
 -- A walk, one block after another, and the frames that it shows.
-use Rattle.std.proofs.Common.{◌≡◌, ◌≢◌, ◌<◌, ◌≤◌, ◌+◌, ◌^◌, ℕ, inl, inr, List, [], ◌∷◌, ◌++◌, length, Option, Some, None, Result, Ok, Err, true, refl, sym, ap, subst, ◌∙◌, append_assoc, append-nil, arith, length-append}
-use Rattle.std.specs.Prelude.{IfSome, option_map, unwrap_or}
+use Rattle.std.proofs.Common.{◌≡◌, ◌≢◌, ◌<◌, ◌≤◌, ◌+◌, ◌^◌, ℕ, inl, inr, List, [], ◌∷◌, ◌++◌, length, Option, Some, None, Result, Ok, Err, true, refl, sym, ap, subst, ◌∙◌, append-nil, arith, length-append}
+use Rattle.std.specs.Prelude.{IfSome, unwrap_or}
 use Rattle.std.specs.Io.KnownBytes.{Consumes, IsAtEnd}
 use Rattle.gfx_types.specs.declared.frame.Frame.{Frame}
-use Rattle.gfx_types.specs.declared.names.Fault.{Fault}
 use Rattle.gfx_io.specs.Told.{IfTold}
 use Rattle.gfx_model.specs.Events.{Event}
 use Rattle.gfx_model.specs.Events.Event.{QueuePresentKHR}
@@ -18,10 +17,10 @@ use Rattle.gfx_model.specs.Table.{checks_of}
 use Rattle.gfx_model.specs.Views.{View}
 use Rattle.gfx_laws.specs.Laws.{frames_after}
 use Rattle.gfx_grammar.specs.Framing.{with_items}
-use Rattle.gfx_grammar.specs.Splitting.{Blocks, blocks_of, only_end, with_item}
+use Rattle.gfx_grammar.specs.Splitting.{blocks_of, with_item}
 use Rattle.gfx_trim_law.proofs.Cuts.{events_in, onto_parts}
 use Rattle.gfx_tracker.specs.Tracker.{answers}
-use Rattle.gfx_replay.specs.Fed.{AreShown, broken_by, frame_by}
+use Rattle.gfx_replay.specs.Fed.{broken_by, frame_by}
 use Rattle.gfx_replay.specs.Replayer.{IsFed as IsReplayed, StandsFor, bytes_of}
 use Rattle.gfx_replay.specs.Shown.{frame_of}
 use Rattle.gfx_replay.specs.declared.replayer.Replayer.{Replayer}
@@ -43,7 +42,7 @@ use Rattle.gfx_player.specs.Ends.{BeginsWith, EndsBehind, IsBehindFrame, IsStopp
 use Rattle.gfx_player.specs.Faults.{IsReplayFault, IsWalkFault, of_decoder}
 use Rattle.gfx_player.specs.Fed.{IsUnfinished, IsFed, IsGiven, history_of}
 use Rattle.gfx_player.specs.Meanings.{first_of}
-use Rattle.gfx_player.specs.Walks.{HasAll, HasRead, HasReplayed, IsReadAlike, IsReplayedAlike, Plays, Refuses, Replays, ShowsNext, next_frame_of}
+use Rattle.gfx_player.specs.Walks.{HasAll, HasRead, HasReplayed, IsReadAlike, IsReplayedAlike, Plays, Refuses, Replays, ShowsNext}
 use Rattle.gfx_player.proofs.Feeding.{block_comes, fed_blocks, fed_more, fed_none, fed_with, read_through}
 use Rattle.gfx_player.proofs.Judging.{judged_end, judged_fault, judged_given, longer}
 use Rattle.gfx_player.proofs.Stopping.{GivesNone, header_stops, stops_behind, told_stop}

@@ -7,7 +7,7 @@ use Rattle.gfx_model.specs.Meaning.{Means}
 use Rattle.gfx_model.specs.Spelling.{Spells, id_of, type_of}
 use Rattle.gfx_grammar.specs.Reads.{AreBytes}
 use Rattle.gfx_grammar.specs.Rows.{read_call}
-use Rattle.gfx_grammar.specs.Splitting.{Blocks, blocks_of}
+use Rattle.gfx_grammar.specs.Splitting.{blocks_of}
 use Rattle.gfx_player.specs.Meanings.{end_of, frames_in}
 
 -- the computed blocks are the blocks of the bytes, and there are no others

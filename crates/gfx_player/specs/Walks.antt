@@ -1,12 +1,12 @@
 -- What a player stands for.
-use Rattle.std.specs.Prelude.{◌≡◌, ℕ, ◌+◌, ◌-◌, ◌^◌, ◌≤◌, List, [], ◌∷◌, ◌++◌, length, Option, Some, None, unwrap_or, ⊤}
+use Rattle.std.specs.Prelude.{◌≡◌, ℕ, ◌+◌, ◌^◌, ◌≤◌, List, [], ◌∷◌, ◌++◌, length, Option, Some, None, unwrap_or}
 use Rattle.std.specs.List.{AllByRecursion}
 use Rattle.gfx_types.specs.declared.effect.Block.{Block}
 use Rattle.gfx_types.specs.declared.names.Fault.{Fault}
 use Rattle.gfx_types.specs.declared.frame.Frame.{Frame}
 use Rattle.gfx_io.specs.Told.{IfTold}
 use Rattle.gfx_model.specs.Events.{Event}
-use Rattle.gfx_model.specs.Blocks.{Content, Position, Whole, minor_of}
+use Rattle.gfx_model.specs.Blocks.{Position, Whole, minor_of}
 use Rattle.gfx_model.specs.Blocks.End.{clean}
 use Rattle.gfx_model.specs.Frames.{frames}
 use Rattle.gfx_model.specs.History.{view}

@@ -3,7 +3,7 @@ use Rattle.std.proofs.Common.{◌≡◌, ℕ, true, List, ◌∷◌, Some, None,
 use Rattle.std.specs.Prelude.{unwrap_or}
 use Rattle.gfx_model.specs.Events.{Event}
 use Rattle.gfx_model.specs.Events.Event.{CreateInstance, QueuePresentKHR}
-use Rattle.gfx_model.specs.Blocks.Content.{skipped, effect}
+use Rattle.gfx_model.specs.Blocks.Content.{effect}
 use Rattle.gfx_model.specs.Checks.{first_broken}
 use Rattle.gfx_model.specs.Frames.{frame_of, frames}
 use Rattle.gfx_model.specs.History.{fault, is_valid, view}

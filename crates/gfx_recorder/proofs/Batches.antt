@@ -1,19 +1,12 @@
 -- What appending a batch and putting one call do to a worker.
-use Rattle.std.proofs.Common.{◌≡◌, ℕ, ◌+◌, ◌<◌, List, [], ◌∷◌, ◌++◌, length, take, sym, ap, ◌∙◌, subst, arith, append-nil, Ok, Err}
-use Rattle.std.proofs.lemmas.List.{take_all}
+use Rattle.std.proofs.Common.{◌≡◌, ◌+◌, [], ◌∷◌, ◌++◌, sym, ap, ◌∙◌, subst, arith, append-nil}
 use Rattle.gfx_model.specs.Events.{Event}
 use Rattle.gfx_seats.specs.declared.stage.Stage.TheVariants.{Idle}
 use Rattle.gfx_seats.specs.Seat.{hand, desk_of}
-use Rattle.gfx_capture.specs.declared.answer.Receipt.{Receipt}
-use Rattle.gfx_capture.specs.declared.answer.AppendFault.{AppendFault}
-use Rattle.gfx_capture.specs.declared.answer.AppendFault.TheVariants as append
-use Rattle.gfx_capture.specs.Append.{IsFaulty, IsFull}
-use Rattle.gfx_capture.specs.Entry.{entries_under}
-use Rattle.gfx_capture.specs.Pass.{Keeps, Tells}
+use Rattle.gfx_capture.specs.Pass.{Keeps}
 use Rattle.gfx_capture.proofs.Places.{keeps_all}
 use Rattle.gfx_recorder.specs.declared.worker.Worker.{Worker}
-use Rattle.gfx_recorder.specs.Ends.{done_of}
-use Rattle.gfx_recorder.specs.Work.{hand_of, Puts, Stops, Why}
+use Rattle.gfx_recorder.specs.Work.{hand_of, Puts}
 
 module _ (w w' : Worker) (same : w'.pass ≡ w.pass) (idle : (hand_of w).stage ≡ Idle) (done : w'.done ≡ w.done) where
   still-at : desk_of w'.pass ≡ desk_of w.pass

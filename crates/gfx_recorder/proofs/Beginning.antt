@@ -8,9 +8,8 @@ use Rattle.gfx_seats.specs.declared.hand.Hand.{Hand}
 use Rattle.gfx_seats.specs.Entries.{times}
 use Rattle.gfx_seats.specs.Hand.{fresh, fresh_from}
 use Rattle.gfx_seats.specs.Seat.{hand, desk_of}
-use Rattle.gfx_recorder.specs.declared.worker.Worker.{Worker}
 use Rattle.gfx_recorder.specs.Begun.{APass, new_worker}
-use Rattle.gfx_recorder.specs.Progress.{MadeOfDrawn, IsBetween, Reached, AreNew}
+use Rattle.gfx_recorder.specs.Progress.{MadeOfDrawn, IsBetween, AreNew}
 
 fresh-at : (m n t i : ℕ) (d : Hand Entry) → i < n → get_or (fresh_from m t n) i d ≡ fresh m (t + i)
 fresh-at m zero t i d less = absurd (omega arith)

@@ -5,7 +5,6 @@ use Rattle.atomic_table.specs.Seated.{TableId}
 use Rattle.gfx_model.specs.Events.{Event}
 use Rattle.gfx_seats.specs.Entries.{times, AreAmong}
 use Rattle.gfx_capture.specs.declared.answer.AppendFault.{AppendFault}
-use Rattle.gfx_capture.specs.declared.answer.AppendFault.TheVariants as append
 use Rattle.gfx_capture.specs.Entry.{event_ids}
 use Rattle.gfx_recorder.specs.declared.worker.Worker.{Worker}
 use Rattle.gfx_recorder.specs.Work.{hand_of, IsReady, Puts, Stops}

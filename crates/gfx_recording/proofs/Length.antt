@@ -1,11 +1,11 @@
 -- A text that parses to a script is no longer than one may be.
-use Rattle.std.proofs.Common.{◌≡◌, ℕ, suc, ◌+◌, ◌<◌, ◌≤◌, ◌==◌, ◌&&◌, ◌||◌, not, nat_lt, min, Bool, true, false, cond, List, [], ◌∷◌, length, Option, Some, None, refl, arith}
+use Rattle.std.proofs.Common.{◌≡◌, ℕ, suc, ◌+◌, ◌≤◌, ◌==◌, ◌&&◌, ◌||◌, not, nat_lt, min, Bool, true, false, cond, List, [], ◌∷◌, length, Option, Some, None, refl, arith}
 use Rattle.std.specs.Prelude.{if◌then◌else◌, nat_le}
 use Rattle.std.specs.List.{list_all, onto_first}
 use Rattle.std.proofs.lemmas.Bool.Decides.{nat_tests}
 use Rattle.gfx_model.specs.Limits.{max_script, max_line, max_lines, max_phases}
 use Rattle.gfx_script_model.specs.Statements.{lines_of, tokens_of}
-use Rattle.gfx_script_model.specs.Scripts.{Kind, Reading, Part, Outcome, reads, refuses, bad_byte, line_too_long, too_many, early_fault, is_phase, is_printable, IsOutcome, IsLateOutcome, Parses, ParsesFrom, parses, fails, through_line, at_first}
+use Rattle.gfx_script_model.specs.Scripts.{Kind, Reading, Part, reads, refuses, bad_byte, line_too_long, too_many, early_fault, is_phase, is_printable, IsOutcome, IsLateOutcome, Parses, ParsesFrom, parses, through_line, at_first}
 
 -- where the last line ends
 abbrev reached : ℕ → ℕ → List (List ℕ) → ℕ

@@ -1,14 +1,12 @@
 -- What a recording tells by its answer.
-use Rattle.std.proofs.Common.{◌≡◌, ◌⊎◌, ◌<◌, ◌≤◌, ◌+◌, ℕ, Bool, List, [], ◌++◌, length, Option, Result, Ok, Err, Some, None, inl, inr, refl, sym, ap, subst, ◌∙◌, arith, append-nil, length-append}
+use Rattle.std.proofs.Common.{◌≡◌, ◌≤◌, ℕ, Bool, List, [], ◌++◌, length, Option, Result, Ok, Err, Some, None, inl, inr, refl, sym, ap, subst, ◌∙◌, arith, append-nil, length-append}
 use Rattle.std.specs.Prelude.{IfSome}
 use Rattle.std.specs.Io.KnownBytes.{Consumes, IsAtEnd}
 use Rattle.gfx_io.specs.Told.{IfTold, IsTold}
 use Rattle.gfx_model.specs.Limits.{max_script}
 use Rattle.gfx_script_model.specs.Scripts.{Part, Parsed, Parses, parses, fails}
 use Rattle.gfx_script_model.specs.Runs.{Safe}
-use Rattle.gfx_script.specs.Kinds.{kind_of}
 use Rattle.gfx_script.specs.State.{ParsesAs}
-use Rattle.gfx_script.specs.declared.kind.ScriptKind.{ScriptKind}
 use Rattle.gfx_gather.specs.Shown.{shown_phases}
 use Rattle.gfx_player.specs.declared.asked.Asked.{Asked}
 use Rattle.gfx_player.specs.declared.asked.Asked.TheVariants.{All, Between}
@@ -17,8 +15,7 @@ use Rattle.gfx_recorder.specs.declared.outcome.Outcome.{Outcome}
 use Rattle.gfx_recorder.specs.declared.outcome.Outcome.TheVariants as ran
 use Rattle.gfx_recording.specs.declared.fault.RecordingFault.{RecordingFault}
 use Rattle.gfx_recording.specs.declared.fault.RecordingFault.TheVariants.{BadScript, CallRefused, LogFull, NoSuchFrame, ReadFault, SinkFault, WantMemory}
-use Rattle.gfx_recording.specs.Faults.{IsUnread}
-use Rattle.gfx_recording.specs.Records.{IsRecorded, IsSafeText, IsScriptOf, IsUnstopped, Leaves, LeftMeans, Records, Writes}
+use Rattle.gfx_recording.specs.Records.{IsRecorded, IsSafeText, IsScriptOf, IsUnstopped, LeftMeans, Records, Writes}
 use Rattle.gfx_recording.proofs.Length.{parses_small}
 
 -- the answers to a text that is no script, and to one that was not read

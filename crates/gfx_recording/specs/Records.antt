@@ -17,7 +17,7 @@ use Rattle.gfx_recorder.specs.declared.outcome.Outcome.{Outcome}
 use Rattle.gfx_recorder.specs.declared.outcome.Outcome.TheVariants as ran
 use Rattle.gfx_recording.specs.Writing.{MeansHistory, TookThen, WritesAsked}
 use Rattle.gfx_recording.specs.declared.fault.RecordingFault.{RecordingFault}
-use Rattle.gfx_recording.specs.declared.fault.RecordingFault.TheVariants.{BadScript, CallRefused, LogFull, NoSuchFrame, ReadFault, SinkFault, WantMemory}
+use Rattle.gfx_recording.specs.declared.fault.RecordingFault.TheVariants.{BadScript, CallRefused, LogFull, NoSuchFrame, ReadFault, WantMemory}
 
 -- ---- the text
 

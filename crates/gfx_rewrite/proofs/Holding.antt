@@ -1,6 +1,5 @@
 -- What is held back, as it grows and as some of it is written.
 use Rattle.std.proofs.Common.{◌≡◌, ℕ, List, [], ◌++◌, take, drop, Option, refl, sym, ap, subst, ◌∙◌, append_assoc, take-append-drop}
-use Rattle.std.specs.Prelude.{Result, Ok, Err, OnErr}
 use Rattle.std.proofs.lemmas.List.{append-nil}
 use Rattle.std.specs.Io.KnownBytes.{Appends}
 use Rattle.gfx_io.specs.Pieces.{AppendsPart}

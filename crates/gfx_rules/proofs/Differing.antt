@@ -1,5 +1,5 @@
 -- The first place of a call at which a command buffer does not meet its layouts, and the places that are passed.
-use Rattle.std.proofs.Common.{◌≡◌, ◌≢◌, ◌<◌, ◌≤◌, ◌+◌, ℕ, Option, Some, None, List, length, refl, sym, ap, ◌∙◌, subst, IfSome, arith}
+use Rattle.std.proofs.Common.{◌≡◌, ◌≢◌, ◌<◌, ◌≤◌, ◌+◌, ℕ, Option, Some, None, List, length, refl, ap, subst, IfSome, arith}
 use Rattle.gfx_types.specs.declared.names.Fault.{Fault}
 use Rattle.gfx_types.specs.declared.lists.Submit.{Submit}
 use Rattle.gfx_model.specs.Checks.{first}

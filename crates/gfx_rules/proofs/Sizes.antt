@@ -3,7 +3,7 @@ use Rattle.std.proofs.Common.{◌≡◌, ℕ, ◌+◌, ◌*◌, List, [], ◌∷
 use Rattle.std.specs.List.{sum_by}
 use Rattle.std.proofs.lemmas.List.Concat.{length-flat_map}
 use Rattle.std.proofs.lemmas.List.Sums.{sum_by-append}
-use Rattle.std.specs.Int.{to_le_bytes, w32, w64}
+use Rattle.std.specs.Int.{to_le_bytes, w64}
 use Rattle.gfx_types.specs.declared.lists.Barrier.{Barrier}
 use Rattle.gfx_types.specs.declared.lists.BufferRegion.{BufferRegion}
 use Rattle.gfx_types.specs.declared.lists.ImageRegion.{ImageRegion}

@@ -7,7 +7,7 @@ use Rattle.gfx_model.specs.Events.{Event}
 use Rattle.gfx_script_model.specs.Ids.{map_ids}
 use Rattle.gfx_script_model.specs.Statements.Form.{states}
 use Rattle.gfx_script_model.specs.Scripts as script
-use Rattle.gfx_script_model.specs.Scripts.{Outcome, reads, refuses, bad_line, structure, add_statement, add_line, in_order, phase_in_order, renumber}
+use Rattle.gfx_script_model.specs.Scripts.{Outcome, reads, refuses, bad_line, structure, add_statement, in_order, phase_in_order, renumber}
 use Rattle.gfx_grammar.specs.Reading.{◌>>=◌}
 use Rattle.gfx_text_grammar.specs.Parsing.{form_outcome}
 use Rattle.gfx_text_grammar.specs.StatementReading.{apart_of, read_statement}

@@ -1,20 +1,19 @@
 -- What is kept is read again.
-use Rattle.std.proofs.Common.{◌≡◌, ℕ, ◌≤◌, nat_eq, true, false, List, [], ◌∷◌, length, Option, Some, None, is_some, refl, sym, ap, ◌∙◌, arith}
-use Rattle.std.specs.Option.{unwrap_or}
+use Rattle.std.proofs.Common.{◌≡◌, ℕ, ◌≤◌, nat_eq, true, false, List, [], ◌∷◌, length, Some, refl, sym, ap, ◌∙◌, arith}
 use Rattle.std.proofs.lemmas.Bool.{cond-false}
 use Rattle.std.proofs.lemmas.Bool.Decides.{nat_tests}
 use Rattle.std.proofs.lemmas.List.{length-map}
 use Rattle.gfx_types.specs.declared.effect.Meta.{Meta}
 use Rattle.gfx_types.specs.declared.effect.Meta.TheVariants as meta
 use Rattle.gfx_model.specs.Events.{Event, event_of_meta}
-use Rattle.gfx_model.specs.Events.Event.{FillMemory, BeginSection}
+use Rattle.gfx_model.specs.Events.Event.{FillMemory}
 use Rattle.gfx_model.specs.Spelling.{HasSpelling, spelling, fields_of, id_of, type_of}
 use Rattle.gfx_grammar.specs.Reads.{AreBytes}
 use Rattle.gfx_grammar.specs.Rows.{read_meta, read_event}
 use Rattle.gfx_grammar.proofs.EventLaws.{spelled_is_read, read_is_spelled}
 use Rattle.gfx_script_model.specs.Ids.{defines_of, map_ids}
 use Rattle.gfx_script_model.specs.Statements.{may_be_written}
-use Rattle.gfx_script.specs.Kept.{kept_event, keeps_event, event_in}
+use Rattle.gfx_script.specs.Kept.{kept_event}
 use Rattle.gfx_script.specs.Puts.{HasIds}
 use Rattle.gfx_script.proofs.Renaming.{defines_renamed}
 

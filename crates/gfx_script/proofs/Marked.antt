@@ -9,7 +9,7 @@ use Rattle.gfx_types.specs.declared.lists.Present.{Present}
 use Rattle.gfx_types.specs.declared.lists.Submit.{Submit}
 use Rattle.gfx_model.specs.Fields.{barrier_atoms, buffer_region_atoms, image_region_atoms, mixed_region_atoms, present_atoms}
 use Rattle.gfx_model.specs.Fields.Records.{barriers, buffer_regions, image_regions, mixed_regions, presents}
-use Rattle.gfx_model.specs.Fields.Value.{records, submitted}
+use Rattle.gfx_model.specs.Fields.Value.{records}
 use Rattle.gfx_script_model.specs.Ids.{atom_ids, named_by, submit_ids}
 use Rattle.gfx_script.specs.Puts.{TakesNamed, Takes}
 use Rattle.gfx_script.specs.declared.supply.Supply.{Supply}

@@ -4,8 +4,7 @@ use Rattle.std.specs.List.{list_any, position_from}
 use Rattle.std.proofs.Common.{get_or}
 use Rattle.std.specs.Str.{bytes_eq}
 use Rattle.std.specs.List.{list_all}
-use Rattle.std.specs.BTreeMap.{BTreeMap, is_at}
-use Rattle.std.specs.Map.{lookup}
+use Rattle.std.specs.BTreeMap.{BTreeMap}
 use Rattle.std.proofs.lemmas.List.{length-map, map-append, take_more}
 use Rattle.std.specs.Option.{unwrap_or}
 use Rattle.std.specs.Cmp.Lexicographic.{bytes_decides}
@@ -18,7 +17,7 @@ use Rattle.gfx_script_model.specs.Scripts.{Defined, number_of, may_use, repeats,
 use Rattle.gfx_text_grammar.proofs.Lists.{same_list-true}
 use Rattle.gfx_script.specs.declared.key.Key.{Key}
 use Rattle.gfx_script.specs.declared.names.Definition.{Definition}
-use Rattle.gfx_script.specs.Keys.{key_of, key_cmp}
+use Rattle.gfx_script.specs.Keys.{key_of}
 use Rattle.gfx_script.proofs.Keys.{keys_tie}
 use Rattle.gfx_script.specs.Numbered.{definition_of, place_of, nothing_defined, allowed_at, ArePlaces, PutsPlace, is_taken, clashes}
 

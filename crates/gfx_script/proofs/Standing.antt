@@ -4,7 +4,7 @@ use Rattle.std.specs.List.{list_any}
 use Rattle.std.proofs.lemmas.List.Folds.{list_any-append}
 use Rattle.gfx_script_model.specs.Statements.{is_empty}
 use Rattle.gfx_script_model.specs.Scripts as script
-use Rattle.gfx_script_model.specs.Scripts.{Outcome, reads, refuses, structure, in_order, begin_thread}
+use Rattle.gfx_script_model.specs.Scripts.{reads, refuses, structure, in_order, begin_thread}
 use Rattle.gfx_script.specs.Line.{line_of, part_of, phases_of}
 use Rattle.gfx_script.specs.State.{open_part, open_phase, thread_stood, reading_of}
 use Rattle.gfx_script.specs.Staged.{is_staged, is_outside}

@@ -1,17 +1,15 @@
 -- What a statement defines and uses, by the texts of its tokens and the numbers of its names.
-use Rattle.std.proofs.Common.{◌≡◌, ℕ, ◌<◌, nat_eq, ◌&&◌, ◌||◌, not, Bool, true, false, cond, List, [], ◌∷◌, ◌++◌, map, filter, flat_map, length, Option, Some, None, is_some, refl, sym, ap, ◌∙◌, arith, codes, ◌⊎◌, inl, inr}
+use Rattle.std.proofs.Common.{◌≡◌, ℕ, ◌<◌, nat_eq, ◌&&◌, ◌||◌, not, Bool, true, false, cond, List, [], ◌∷◌, ◌++◌, map, filter, flat_map, length, Option, Some, None, is_some, refl, sym, ap, ◌∙◌, arith, codes}
 use Rattle.std.specs.Option.{unwrap_or}
 use Rattle.std.specs.List.{AllByRecursion, list_all, list_any, join_with_byte, slice_split, onto_first}
 use Rattle.std.proofs.lemmas.Bool.{cond-true, cond-false, and_parts}
 use Rattle.std.proofs.lemmas.Bool.Decides.{nat_tests}
 use Rattle.gfx_model.specs.Events.{Event}
 use Rattle.gfx_model.specs.Checks.{same_list}
-use Rattle.gfx_model.specs.Fields.{Atom, Value, Named, is_made, named_fields, atoms_of}
-use Rattle.gfx_model.specs.Fields.Atom.{an_id, a_wide, a_short}
-use Rattle.gfx_model.specs.Fields.Value.{names, makes, maybe, wide, short, raw, names_each, makes_each, shorts, records, submitted}
-use Rattle.gfx_types.specs.declared.lists.Submit.{Submit}
-use Rattle.gfx_script_model.specs.FieldText.{field_text, value_text, IdFits, AtomFits, SubmitFits, ValueFits, FieldsFit}
-use Rattle.gfx_script_model.specs.Ids.{atom_ids, named_by, made_by, uses_of, defines_of, map_ids}
+use Rattle.gfx_model.specs.Fields.{Value, Named, is_made, named_fields}
+use Rattle.gfx_model.specs.Fields.Value.{names, makes, makes_each}
+use Rattle.gfx_script_model.specs.FieldText.{field_text, value_text, IdFits, ValueFits, FieldsFit}
+use Rattle.gfx_script_model.specs.Ids.{made_by, defines_of, map_ids}
 use Rattle.gfx_script_model.specs.Names.{is_letter_or_digit, is_name, is_code, name_of, named_ids}
 use Rattle.gfx_script_model.specs.Scripts.{Defined, number_of, may_use, is_known, without_0, renumber}
 use Rattle.gfx_script_model.specs.Statements.{defining, statement_word, statement_tokens, IsStatement}

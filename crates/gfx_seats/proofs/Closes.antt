@@ -1,7 +1,7 @@
 -- Once all seats are one, the value in the slot is the whole history.
 use Rattle.std.proofs.Common.{All, Bool, true, false, ◌≡◌, ◌≢◌, ℕ, suc, ◌+◌, ◌*◌, ◌≤◌, ◌==◌, List, [], ◌∷◌, length, set, sym, refl, ap, ◌∙◌, subst, arith, Option, Some}
 use mathlib.Core.Logic.{dite}
-use mathlib.Core.Option.{none, some, some-injective}
+use mathlib.Core.Option.{some}
 use mathlib.Core.Option as maybe
 use native.Mathlib.Decide.{dec_le}
 use lib.ListN.{get_elem?}

@@ -20,7 +20,7 @@ use Rattle.gfx_seats.specs.Steps.{taken, with_me, drew, counted, left_turn}
 use Rattle.gfx_seats.proofs.Totals.{total-at, total-two, total-found, total-append, each-set, each-nil, each-from_All, is-same}
 use Rattle.gfx_seats.proofs.Entries.{entries_of-append, entries_of-all, entries_of-none}
 use Rattle.gfx_seats.proofs.Hands.{hand-all, alone, once-le}
-use Rattle.gfx_seats.proofs.Own.{when-same, when-other, when-zero, next_mod, in_range, own_state, served_once}
+use Rattle.gfx_seats.proofs.Own.{when-other, when-zero, next_mod, in_range, own_state, served_once}
 
 named-mine : (st : Stage) (t u : ℕ) → seat_count st ≡ 1 → u ≡ t → times t (threads_of st u) ≡ 1
 named-mine Absent t u p e = absurd (omega arith)

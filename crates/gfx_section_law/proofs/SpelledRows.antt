@@ -16,7 +16,7 @@ use Rattle.gfx_model.specs.Checks.{Turn, turns_of}
 use Rattle.gfx_model.specs.Checks.Turn.{wait, execute, signal}
 use Rattle.gfx_model.specs.Bytes.{byte}
 use Rattle.gfx_model.specs.Effects.{effect_of, steps_of, fetches, first_fetch, steps_of_turn, changes_of_buffer, changes_of_command, signals_any, marks, image_bytes_put, inside_of, inside_both, rows_copied, barrier_change, buffer_copy, image_copy, upload, download}
-use Rattle.gfx_model.specs.History.{onto, steps, view, fault, is_valid}
+use Rattle.gfx_model.specs.History.{steps, view}
 use Rattle.gfx_model.specs.History as history
 use Rattle.gfx_model.proofs.Lists.{all_append, all_map, all_flat_map}
 use Rattle.gfx_section_law.specs.Spelled.{DetailFits, IsSpelled, SpelledStep}

@@ -1,8 +1,8 @@
 -- Memories with their bytes, as rows.
-use Rattle.std.proofs.Common.{◌≡◌, ℕ, zero, suc, ◌+◌, ◌-◌, ◌<◌, ◌≤◌, Bool, false, cond, refl, ap, sym, subst, ◌∙◌, List, [], ◌∷◌, ◌++◌, map, length, set, get_or, drop, nat_lt, ◌&&◌, ◌==◌, Option, Some, None, arith, ◌⊎◌, inl, inr}
+use Rattle.std.proofs.Common.{◌≡◌, ℕ, zero, suc, ◌+◌, ◌-◌, ◌<◌, ◌≤◌, false, cond, refl, ap, sym, subst, ◌∙◌, List, [], ◌∷◌, ◌++◌, map, length, set, get_or, drop, nat_lt, ◌&&◌, Option, Some, None, arith, ◌⊎◌, inl, inr}
 use Rattle.std.specs.List.{slice_get}
 use Rattle.std.proofs.lemmas.List.{map-append, set-get_or}
-use Rattle.std.proofs.lemmas.Bool.{cases_lt, lt-ltb, le-leb, eq-eqb}
+use Rattle.std.proofs.lemmas.Bool.{cases_lt, lt-ltb, le-leb}
 use Rattle.gfx_model.specs.Checks.{is_among}
 use Rattle.gfx_shadow.specs.declared.stretches.Stretches.{Stretches}
 use Rattle.gfx_shadow.specs.declared.memory.MemoryBytes.{MemoryBytes}

@@ -14,7 +14,7 @@ use Rattle.gfx_model.specs.Questions.{image_size, range_of}
 use Rattle.gfx_model.specs.Views.{View, images_in, detail_images, fetched}
 use Rattle.gfx_model.specs.Bytes.{byte, bytes_at}
 use Rattle.gfx_model.specs.Section as section
-use Rattle.gfx_model.specs.Section.{Known, object_events, fill_events, fetch_event, image_event, marks_of}
+use Rattle.gfx_model.specs.Section.{object_events, fill_events, fetch_event, image_event}
 use Rattle.gfx_feature_model.specs.Lean.{Keep, kept_block}
 use Rattle.gfx_pages.specs.declared.bytes.Span.{Span}
 use Rattle.gfx_pages.proofs.Sized as pages

@@ -1,9 +1,8 @@
 -- What trimming and hashing answer of a file that has the frames.
-use Rattle.std.proofs.Common.{◌≡◌, ◌≤◌, ◌<◌, ℕ, List, length, Option, Result, Err, refl, sym, ap, ◌∙◌, inl, inr, arith}
+use Rattle.std.proofs.Common.{◌≡◌, ◌≤◌, ℕ, List, length, Option, Result, Err, refl, sym, ap, ◌∙◌, inl, inr, arith}
 use Rattle.gfx_types.specs.declared.frame.Frame.{Frame}
 use Rattle.gfx_io.specs.Causes.{Rose}
 use Rattle.gfx_grammar.specs.Reads.{AreBytes}
-use Rattle.gfx_player.specs.Meanings.{frames_in}
 use Rattle.sha2.specs.Sha256.{sha256}
 use Rattle.gfx_digest.specs.declared.digest.Digested.{Digested}
 use Rattle.gfx_digest.specs.Digests.{Digests, IsDigest}

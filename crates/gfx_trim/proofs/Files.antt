@@ -1,5 +1,5 @@
 -- A file that is trimmed, block by block, and what the call answers where it stops.
-use Rattle.std.proofs.Common.{◌≡◌, ◌≤◌, ◌⊎◌, inl, inr, ◌+◌, ◌-◌, ◌==◌, ◌||◌, cond, if◌then◌else◌, ℕ, Bool, true, false, List, [], ◌∷◌, ◌++◌, Option, Some, None, Result, Ok, Err, refl, sym, ap, subst, ◌∙◌, append_assoc, arith}
+use Rattle.std.proofs.Common.{◌≡◌, ◌≤◌, ◌⊎◌, inl, inr, ◌+◌, ◌-◌, ◌==◌, ◌||◌, cond, if◌then◌else◌, ℕ, Bool, true, false, List, [], ◌∷◌, ◌++◌, Option, Some, None, Ok, Err, refl, sym, ap, subst, ◌∙◌, arith}
 use Rattle.std.specs.Prelude.{option_map, unwrap_or}
 use Rattle.std.specs.Io.KnownBytes.{Appends}
 use Rattle.std.proofs.lemmas.Bool.{eq-eqb, or_left, or_right}
@@ -18,7 +18,6 @@ use Rattle.gfx_model.specs.Meaning.{content_fault, has_frame}
 use Rattle.gfx_model.specs.Trimmed.{Cut, cut_before, reaches, is_first, boundary, has_boundary, history_to, range_from, trimmed_by}
 use Rattle.gfx_model.proofs.Cutting.{shown_is_reached}
 use Rattle.gfx_model.proofs.Lists.{all_along}
-use Rattle.gfx_grammar.specs.Reads.{AreBytes}
 use Rattle.gfx_grammar.specs.Splitting.{Blocks, blocks_of}
 use Rattle.gfx_trim_law.proofs.Boundary.{at_boundary, boundary_there}
 use Rattle.gfx_trim_law.proofs.Prefix.{prefix, valid_more}
@@ -27,13 +26,12 @@ use Rattle.gfx_trim_law.proofs.Each.{begun_is_shown}
 use Rattle.gfx_trim_law.proofs.Numbers.{numbered, number_of}
 use Rattle.gfx_replay.specs.Fed.{frame_by}
 use Rattle.gfx_decode.proofs.Told.{told_if}
-use Rattle.gfx_decode.specs.Decoding.{coming}
 use Rattle.gfx_io.proofs.Appending.{appends_none, part_of, whole_part}
 use Rattle.gfx_player.specs.declared.fault.PlayFault.{PlayFault}
 use Rattle.gfx_player.specs.declared.fault.PlayFault.TheVariants as play
 use Rattle.gfx_player.specs.declared.player.Player.{Player}
 use Rattle.gfx_player.specs.Ends.{BeginsWith, EndsBehind, StopsBehind}
-use Rattle.gfx_player.specs.Fed.{IsUnfinished, IsFed, file_with, history_of}
+use Rattle.gfx_player.specs.Fed.{IsUnfinished, IsFed, history_of}
 use Rattle.gfx_player.specs.Meanings.{first_in, history_in, last_in, valid_from}
 use Rattle.gfx_player.specs.Walks.{HasRead, IsReadAlike, IsReplayedAlike, Refuses, first_frame_of, next_frame_of}
 use Rattle.gfx_player.proofs.Feeding.{read_through}
@@ -44,10 +42,9 @@ use Rattle.gfx_trim.specs.declared.cutter.Cutter.{Cutter}
 use Rattle.gfx_trim.specs.declared.phase.Phase.{Phase}
 use Rattle.gfx_trim.specs.declared.phase.Phase.TheVariants as phase
 use Rattle.gfx_trim.specs.Cutters.{IsAfter, Ends, GoesOn, number_by, text_by}
-use Rattle.gfx_trim.specs.Keeps.{Keeps}
 use Rattle.gfx_trim.specs.Numbers.{IsOutside}
 use Rattle.gfx_trim.specs.Phases.{IsPhase}
-use Rattle.gfx_trim.specs.Trims.{Answers, AnswersKeeping, IsBehindLast, IsDone, IsWithout, trimmed}
+use Rattle.gfx_trim.specs.Trims.{Answers, AnswersKeeping, IsBehindLast, trimmed}
 use Rattle.gfx_trim.specs.Written.{has_effect, written, written_of}
 use Rattle.gfx_trim.proofs.Cutting.{quiet_reaches}
 use Rattle.gfx_trim.proofs.Growing.{grown, text_some, text_whole}

@@ -3,13 +3,12 @@ use Rattle.std.proofs.Common.{◌≡◌, ◌≢◌, ℕ, ◌+◌, ◌==◌, ◌&
 use Rattle.std.specs.Prelude.{flat_map, IfErr, IfOk, option_map}
 use Rattle.std.specs.Io.KnownBytes.{Appends}
 use Rattle.std.proofs.lemmas.Bool.{eq-eqb, eqb-true}
-use Rattle.std.proofs.lemmas.List.{append-nil}
 use Rattle.gfx_io.specs.Pieces.{AppendsPart}
 use Rattle.gfx_types.specs.declared.frame.Frame.{Frame}
 use Rattle.gfx_model.specs.Events.{Event}
 use Rattle.gfx_model.specs.Blocks.{Whole}
 use Rattle.gfx_model.specs.Blocks.Content.{skipped}
-use Rattle.gfx_model.specs.Trimmed.{Cut, content_begins, cut_before, cuts_before, is_first, boundary, has_boundary}
+use Rattle.gfx_model.specs.Trimmed.{Cut, content_begins, cut_before, cuts_before, is_first, boundary}
 use Rattle.gfx_replay.specs.Replayer.{bytes_of}
 use Rattle.gfx_replay.specs.Shown.{frame_of}
 use Rattle.gfx_replay.specs.declared.shown.ShownFrame.{ShownFrame}

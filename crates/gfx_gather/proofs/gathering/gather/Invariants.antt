@@ -1,7 +1,6 @@
-use Rattle.std.proofs.Common.{◌≡◌, map, take}
+use Rattle.std.proofs.Common.{◌≡◌, take}
 use Rattle.gfx_script.specs.Line.{phases_of}
 use Rattle.gfx_shadow.specs.Gathered.{gathered_phases}
-use Rattle.gfx_script.specs.Line.{phase_of}
 use Rattle.gfx_gather.proofs.gathering.gather.Given as goal
 
 abbrev pub invariant-phases : goal.invariant-phases

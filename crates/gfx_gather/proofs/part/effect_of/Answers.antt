@@ -1,4 +1,4 @@
-use Rattle.std.proofs.Common.{ℕ, suc, ◌<◌, List, [], ◌∷◌, get_or, Fits, w8, arith, refl}
+use Rattle.std.proofs.Common.{ℕ, suc, ◌<◌, List, [], ◌∷◌, get_or, Fits, w8, arith}
 use Rattle.std.specs.List.{AllByRecursion}
 use Rattle.gfx_model.specs.Spelling.{fields_of}
 use Rattle.gfx_gather.proofs.part.effect_of.Goals as goal

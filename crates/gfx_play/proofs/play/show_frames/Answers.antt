@@ -1,4 +1,4 @@
-use Rattle.std.proofs.Common.{arith, min}
+use Rattle.std.proofs.Common.{arith}
 use Rattle.std.proofs.lemmas.Result.{err_from_is_err_and}
 use Rattle.gfx_play.proofs.Showing.{open_fails}
 use Rattle.gfx_play.proofs.play.show_frames.Goals as goal

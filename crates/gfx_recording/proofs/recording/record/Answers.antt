@@ -1,4 +1,4 @@
-use Rattle.std.proofs.Common.{◌≡◌, List, ℕ, Ok, Err, ap, subst, sym, ◌∙◌}
+use Rattle.std.proofs.Common.{List, ℕ, Ok, Err, ap, subst, sym, ◌∙◌}
 use Rattle.std.proofs.lemmas.Result.{err_from_is_err_and}
 use Rattle.gfx_script_model.specs.Scripts.{Part}
 use Rattle.gfx_script_model.specs.Runs.{Safe}

@@ -1,5 +1,4 @@
 use Rattle.std.proofs.Common.{◌≡◌, ◌⊎◌, inl, inr, ℕ, true, List, refl, sym, subst}
-use Rattle.std.specs.Prelude.{IsTrue}
 use Rattle.gfx_script_model.specs.Scripts.{Part}
 use Rattle.gfx_script.specs.Kept.{is_version}
 use Rattle.gfx_script.specs.Line.{phases_of}

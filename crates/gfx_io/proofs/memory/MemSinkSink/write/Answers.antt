@@ -1,6 +1,5 @@
-use Rattle.std.proofs.Common.{◌≡◌, ◌+◌, ℕ, List, arith, subst, sym, ap, ◌∙◌}
-use Rattle.gfx_io.specs.Causes.{HasCause}
-use Rattle.gfx_io.specs.Memory.{Taken, listed_calls, sink_faults}
+use Rattle.std.proofs.Common.{◌≡◌, ℕ, List, arith, subst, ap}
+use Rattle.gfx_io.specs.Memory.{listed_calls, sink_faults}
 use Rattle.gfx_io.proofs.memory.MemSinkSink.write.Goals as goal
 
 pub returns-then-is_err-clause-cause : goal.returns-then-is_err-clause-cause

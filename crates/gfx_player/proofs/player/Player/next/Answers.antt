@@ -1,6 +1,6 @@
-use Rattle.std.proofs.Common.{Ok, None, refl, sym, ap, ◌∙◌}
+use Rattle.std.proofs.Common.{refl}
 use Rattle.std.proofs.lemmas.Result.{err_from_is_err_and}
-use Rattle.gfx_player.proofs.Walking.{decoder_kind, next_few, next_fewer, next_none, next_some, not_failed, not_fresh, ok_same, read_failed, read_stops}
+use Rattle.gfx_player.proofs.Walking.{decoder_kind, next_few, next_fewer, next_none, next_some, not_fresh, ok_same, read_stops}
 use Rattle.gfx_player.proofs.player.Player.next.Goals as goal
 
 pub next-requires : goal.next-requires
