@@ -1,14 +1,21 @@
 #!/usr/bin/env python3
-"""How many lines of a script `gfxcap capture` runs a second: lines.py BINARY.
+"""Prints how many lines of a script `gfxcap capture` runs a second.
 
-A million barriers of no image, recorded by one thread, and by eight threads into a command buffer each. Prints the best of three runs.
+    lines.py [PROGRAM]     a million barriers of no image, recorded by one thread, and by eight threads into a command buffer each
+
+300,000 lines a second are wanted. The program is built by the script `gfxcap` at the top of the repository, or is the one that the
+last word names. Scripts are made in /tmp/gfxcap_lines and stay there.
 """
-import subprocess
+import os
 import sys
-import tempfile
-import time
 
+TOP = os.path.dirname(os.path.dirname(os.path.dirname(os.path.abspath(__file__))))
+sys.path.insert(0, os.path.join(TOP, "bench"))
+from measure import least, memory, program_of, run  # noqa: E402
+
+PLACE = "/tmp/gfxcap_lines"
 LINES = 1_000_000
+ROUNDS = 9
 
 
 def script(threads):
@@ -27,20 +34,21 @@ def script(threads):
     return "\n".join(made) + "\n"
 
 
-def seconds(binary, path):
-    with open(path, "rb") as source:
-        begun = time.monotonic()
-        subprocess.run([binary, "capture"], stdin=source, stdout=subprocess.DEVNULL, check=True)
-        return time.monotonic() - begun
+def written(threads):
+    path = os.path.join(PLACE, f"{threads}.script")
+    with open(path, "w", encoding="ascii") as out:
+        out.write(script(threads))
+    return path
 
 
 def main():
-    for threads in (1, 8):
-        with tempfile.NamedTemporaryFile("w", suffix=".script") as file:
-            file.write(script(threads))
-            file.flush()
-            best = min(seconds(sys.argv[1], file.name) for _ in range(3))
-        print(f"{threads} threads: {best:.2f} s, {LINES / best:,.0f} lines a second")
+    os.makedirs(PLACE, exist_ok=True)
+    program, paths = program_of(sys.argv[1:]), {threads: written(threads) for threads in (1, 8)}
+    jobs = [lambda path=path: run([program, "capture"], path) for path in paths.values()]
+    for (threads, path), took in zip(paths.items(), least(ROUNDS, *jobs)):
+        kilobytes = memory([program, "capture"], path)
+        print(f"{threads} threads: {took:.2f} s, {LINES / took:,.0f} lines a second (at least 300,000), {kilobytes:,} kB", flush=True)
 
 
-main()
+if __name__ == "__main__":
+    main()

@@ -8,12 +8,14 @@ that the first word names. Scripts are made in /tmp/gfxcap_gather and stay there
 """
 import os
 import random
-import subprocess
 import sys
-import time
 
 TOP = os.path.dirname(os.path.dirname(os.path.dirname(os.path.abspath(__file__))))
+sys.path.insert(0, os.path.join(TOP, "bench"))
+from measure import least, program_of, run  # noqa: E402
+
 PLACE = "/tmp/gfxcap_gather"
+ROUNDS = 9
 WRITES = 100_000
 WIDTH = 1000
 SIZE = WRITES
@@ -54,28 +56,26 @@ def script(name, offsets):
     return path
 
 
-def run(words, path, out):
-    with open(path, "rb") as data, open(out, "wb") as written:
-        start = time.perf_counter()
-        subprocess.run(words, stdin=data, stdout=written, check=True)
-        return time.perf_counter() - start
+def frames(program, path):
+    """What `replay` says of a recording."""
+    run([program, "replay"], path, path + ".shown")
+    with open(path + ".shown", "rb") as lines:
+        return lines.read()
 
 
 def main():
     os.makedirs(PLACE, exist_ok=True)
-    program = sys.argv[1] if len(sys.argv) == 2 else os.path.join(TOP, "gfxcap")
+    program = program_of(sys.argv[1:])
     offsets = list(range(WRITES))
     orders = {"rising": offsets, "falling": offsets[::-1], "scattered": random.Random(7).sample(offsets, WRITES)}
     for name, order in orders.items():
-        path, shown = script(name, order), []
-        for words in (["capture"], ["capture", "--gather"]):
-            out = os.path.join(PLACE, "written")
-            took = min(run([program, *words], path, out) for _ in range(3))
-            run([program, "replay"], out, out + ".shown")
-            with open(out + ".shown", "rb") as lines:
-                shown.append(lines.read())
+        path = script(name, order)
+        commands = {os.path.join(PLACE, "plain"): ["capture"], os.path.join(PLACE, "gathered"): ["capture", "--gather"]}
+        jobs = [lambda words=words, out=out: run([program, *words], path, out) for out, words in commands.items()]
+        for (out, words), took in zip(commands.items(), least(ROUNDS, *jobs)):
             print(f"{name:10} {' '.join(words):18} {took:.3f} s  {os.path.getsize(out):12,} bytes", flush=True)
-        assert shown[0] == shown[1], name
+        plain, gathered = (frames(program, out) for out in commands)
+        assert plain == gathered, name
 
 
 if __name__ == "__main__":

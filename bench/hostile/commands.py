@@ -10,18 +10,16 @@ program is built by the script `gfxcap` at the top of the repository, or is the 
 """
 import os
 import random
-import resource
-import subprocess
 import sys
 
 TOP = os.path.dirname(os.path.dirname(os.path.dirname(os.path.abspath(__file__))))
-sys.path.insert(0, os.path.join(TOP, "examples"))
-sys.path.insert(0, os.path.dirname(os.path.abspath(__file__)))
+sys.path[:0] = [os.path.dirname(os.path.abspath(__file__)), os.path.join(TOP, "examples"), os.path.join(TOP, "bench")]
 from blocks import call, fill_memory, header  # noqa: E402
+from measure import least, program_of, spent  # noqa: E402
 from run import BUFFER, DEVICE, FIRST, INSTANCE, MEMORY, QUEUE, R8_UINT, begin, end, fill, ids, objects, pools_of_one, submit  # noqa: E402
 
 PLACE = "/tmp/gfxcap_hostile"
-RUNS, GROWTH, FACTOR = 3, 5, 4
+ROUNDS, GROWTH, FACTOR = 9, 5, 4
 SURFACE, SWAPCHAIN, SHOWN, FENCE = 20, 21, 22, 23
 PRESENTED, TRANSFER = 1000001002, 7
 
@@ -336,36 +334,19 @@ def written(make, n):
     return path
 
 
-def spent():
-    used = resource.getrusage(resource.RUSAGE_CHILDREN)
-    return 1000 * (used.ru_utime + used.ru_stime)
-
-
-def milliseconds(program, words, path, wanted):
-    least = None
-    for _ in range(RUNS):
-        with open(path, "rb") as data:
-            start = spent()
-            ran = subprocess.run([program, *words.split()], stdin=data, stdout=subprocess.DEVNULL, stderr=subprocess.PIPE, text=True)
-            took = spent() - start
-        if ran.returncode != wanted:
-            sys.exit(f"{words} of {path}: status {ran.returncode}, {ran.stderr.strip()}")
-        least = took if least is None else min(least, took)
-    return least
-
-
 def main():
     os.makedirs(PLACE, exist_ok=True)
     words = sys.argv[1:]
     names = {make.__name__ for _, make, _, _ in INPUTS}
-    program = words.pop(0) if words and words[0] not in names else os.path.join(TOP, "gfxcap")
+    program = program_of([words.pop(0)] if words and words[0] not in names else [])
     print(f"{'words':17} {'input':30} {'bytes':>12} {'ms':>9} {'growth':>7}   (growth at most {GROWTH})")
     for line, make, n, wanted in INPUTS:
         if words and make.__name__ not in words:
             continue
         smaller, larger = written(make, n), written(make, FACTOR * n)
-        before, after = (milliseconds(program, line, path, wanted) for path in (smaller, larger))
-        print(f"{line:17} {make.__name__:30} {os.path.getsize(larger):12,} {after:9.1f} {after / before:7.1f}", flush=True)
+        jobs = [lambda path=path: 1000 * spent([program, *line.split()], path, wanted) for path in (smaller, larger)]
+        before, after = least(ROUNDS, *jobs)
+        print(f"{line:17} {make.__name__:30} {os.path.getsize(larger):12,} {after:9.1f} {after / before:7.2f}", flush=True)
 
 
 if __name__ == "__main__":

@@ -10,16 +10,15 @@ repository, or is the one that the first word names. Captures are made in /tmp/g
 """
 import os
 import random
-import subprocess
 import sys
-import time
 
 TOP = os.path.dirname(os.path.dirname(os.path.dirname(os.path.abspath(__file__))))
-sys.path.insert(0, os.path.join(TOP, "examples"))
+sys.path[:0] = [os.path.join(TOP, "examples"), os.path.join(TOP, "bench")]
 from blocks import call, header  # noqa: E402
+from measure import least, program_of, run  # noqa: E402
 
 PLACE = "/tmp/gfxcap_hostile"
-RUNS, GROWTH, FACTOR = 3, 5, 4
+ROUNDS, GROWTH, FACTOR = 9, 5, 4
 INSTANCE, SURFACE, DEVICE, QUEUE, POOL, MEMORY, BUFFER = 1, 2, 3, 4, 5, 6, 7
 FIRST = 1000  # ids from here on are the captures' own
 R8_UINT, GENERAL, ALL = 13, 1, 2**64 - 1
@@ -333,35 +332,20 @@ def written(make, n):
     return path
 
 
-def milliseconds(program, word, path):
-    least = None
-    for _ in range(RUNS):
-        with open(path, "rb") as data:
-            start = time.perf_counter()
-            ran = subprocess.run([program, word], stdin=data, stdout=subprocess.DEVNULL, stderr=subprocess.PIPE, text=True)
-            took = 1000 * (time.perf_counter() - start)
-        if ran.returncode:
-            sys.exit(f"{word} of {path}: status {ran.returncode}, {ran.stderr.strip()}")
-        least = took if least is None else min(least, took)
-        if took > 10000:
-            break
-    return least
-
-
 def main():
     os.makedirs(PLACE, exist_ok=True)
     words = sys.argv[1:]
     names = {make.__name__ for make, _, _ in CAPTURES}
-    program = words.pop(0) if words and words[0] not in names else os.path.join(TOP, "gfxcap")
+    program = program_of([words.pop(0)] if words and words[0] not in names else [])
     print(f"{'capture':20} {'bytes':>12} {'info':>8} {'replay':>10} {'quotient':>9} {'aim':>5} {'growth':>7}   (ms; growth at most {GROWTH})")
     for make, n, aim in CAPTURES:
         if words and make.__name__ not in words:
             continue
         smaller, larger = written(make, n), written(make, FACTOR * n)
-        before = milliseconds(program, "replay", smaller)
-        info, replay = (milliseconds(program, word, larger) for word in ("info", "replay"))
+        jobs = [("replay", smaller), ("info", larger), ("replay", larger)]
+        before, info, replay = least(ROUNDS, *(lambda word=word, path=path: 1000 * run([program, word], path) for word, path in jobs))
         print(
-            f"{make.__name__:20} {os.path.getsize(larger):12,} {info:8.1f} {replay:10.1f} {replay / info:9.1f} {aim or '':>5} {replay / before:7.1f}",
+            f"{make.__name__:20} {os.path.getsize(larger):12,} {info:8.1f} {replay:10.1f} {replay / info:9.1f} {aim or '':>5} {replay / before:7.2f}",
             flush=True,
         )
 

@@ -6,15 +6,17 @@ The program is built by the script `gfxcap` at the top of the repository, or is 
 """
 import os
 import struct
-import subprocess
 import sys
-import time
 
 TOP = os.path.dirname(os.path.dirname(os.path.dirname(os.path.abspath(__file__))))
+sys.path.insert(0, os.path.join(TOP, "bench"))
+from measure import least, program_of, run  # noqa: E402
+
 PLACE = "/tmp/gfxcap_info"
 HEADER = struct.pack("<IIII", 0x52584647, 1000, 1, 0)
 UNMAP_MEMORY, FILL_MEMORY = 11, 2
 MEBIBYTE = 1 << 20
+ROUNDS = 9
 
 
 def block(kind, identity, fields):
@@ -32,31 +34,19 @@ def write(name, blocks):
     return path
 
 
-def seconds(words, path):
-    best = None
-    for _ in range(3):
-        with open(path, "rb") as data:
-            start = time.perf_counter()
-            subprocess.run(words, stdin=data, stdout=subprocess.DEVNULL, check=True)
-            took = time.perf_counter() - start
-        best = took if best is None else min(best, took)
-    return best
-
-
 def main():
     os.makedirs(PLACE, exist_ok=True)
-    program = sys.argv[1] if len(sys.argv) > 1 else os.path.join(TOP, "gfxcap")
+    program = program_of(sys.argv[1:])
     small = block(4, UNMAP_MEMORY, struct.pack("<QQ", 2, 7))
     fill = block(3, FILL_MEMORY, struct.pack("<QQQ", 7, 0, MEBIBYTE) + b"\x5a" * MEBIBYTE)
     files = [
         ("small calls", write("small", [small * 1000] * 1000), 1_000_000),
         ("fills", write("fills", [fill] * 200), 200),
     ]
-    subprocess.run([program, "info"], stdin=open(files[1][1], "rb"), stdout=subprocess.DEVNULL, check=True)
+    commands = [program, "info"], ["cat"], ["wc", "-c"]
     for title, path, blocks in files:
         size = os.path.getsize(path)
-        for words in ([program, "info"], ["cat"], ["wc", "-c"]):
-            took = seconds(words, path)
+        for words, took in zip(commands, least(ROUNDS, *(lambda words=words: run(words, path) for words in commands))):
             name = " ".join(os.path.basename(word) for word in words)
             print(f"{title:12} {name:12} {size / took / 1e6:9.1f} MB/s {blocks / took:12.0f} blocks/s")
 

@@ -11,12 +11,13 @@ import os
 import sys
 
 TOP = os.path.dirname(os.path.dirname(os.path.dirname(os.path.abspath(__file__))))
-sys.path.insert(0, os.path.join(TOP, "bench", "replay"))
+sys.path[:0] = [os.path.join(TOP, "bench"), os.path.join(TOP, "bench", "replay")]
 import run as replay  # noqa: E402
 from blocks import call, fill_memory, header  # noqa: E402
+from measure import least, memory, program_of, run  # noqa: E402
 
 FRAMES, RANGE = 1000, "334-667"
-MEMORIES, MEBIBYTE, FIRST, RUNS = 60, 1 << 20, 1000, 5
+MEMORIES, MEBIBYTE, FIRST, ROUNDS = 60, 1 << 20, 1000, 9
 
 
 def unneeded():
@@ -40,15 +41,13 @@ def recording():
 
 def main():
     os.makedirs(replay.PLACE, exist_ok=True)
-    program = sys.argv[1] if len(sys.argv) == 2 else os.path.join(TOP, "crates", "gfxcap", "out", "gfxcap")
-    if len(sys.argv) == 1:
-        replay.run([os.path.join(TOP, "gfxcap"), "info"], os.path.join(TOP, "examples", "first.gfxcap"))
-    path, took = recording(), {}
-    for word in ("trim", "lean"):
-        took[word] = min(replay.run([program, word, RANGE], path) for _ in range(RUNS))
-        size = os.path.getsize(os.path.join(replay.PLACE, "written"))
-        print(f"{word} {RANGE}: {size:12,} bytes in {took[word]:.3f} s, {replay.memory([program, word, RANGE], path):,} kB", flush=True)
-    print(f"quotient {took['lean'] / took['trim']:.2f} (at most 3)")
+    program, path = program_of(sys.argv[1:]), recording()
+    cuts = [[program, word, RANGE] for word in ("trim", "lean")]
+    took = least(ROUNDS, *(lambda words=words: run(words, path, replay.WRITTEN) for words in cuts))
+    for words, seconds in zip(cuts, took):
+        kilobytes = memory(words, path, replay.WRITTEN)
+        print(f"{' '.join(words[1:])}: {os.path.getsize(replay.WRITTEN):12,} bytes in {seconds:.3f} s, {kilobytes:,} kB", flush=True)
+    print(f"quotient {took[1] / took[0]:.2f} (at most 3)")
 
 
 if __name__ == "__main__":

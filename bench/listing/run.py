@@ -11,30 +11,16 @@ import os
 import sys
 
 TOP = os.path.dirname(os.path.dirname(os.path.dirname(os.path.abspath(__file__))))
-sys.path.insert(0, os.path.join(TOP, "bench", "replay"))
-import run as replay  # noqa: E402
-
-RUNS = 12
+sys.path[:0] = [os.path.join(TOP, "bench"), os.path.join(TOP, "bench", "replay")]
+from measure import program_of, run  # noqa: E402
+from run import PLACE, compare, recording  # noqa: E402
 
 
 def written(words, path, name):
     """The path of what a program writes of a file."""
-    out = os.path.join(replay.PLACE, name)
-    replay.run(words, path)
-    os.replace(os.path.join(replay.PLACE, "written"), out)
+    out = os.path.join(PLACE, name)
+    run(words, path, out)
     return out
-
-
-def compare(words, path, other, other_path, most):
-    # by turns, since a machine that others share is faster at one time than at another
-    turns = [(replay.run(words, path), replay.run(other, other_path)) for _ in range(RUNS)]
-    took, beside = (min(times) for times in zip(*turns))
-    kilobytes = replay.memory(words, path)
-    print(
-        f"{words[1]:8} {took:8.3f} s   {' '.join(other):10} {beside:8.3f} s   quotient {took / beside:5.2f}"
-        f" (at most {most})   memory {kilobytes:8,} kB",
-        flush=True,
-    )
 
 
 def same(first, second):
@@ -43,12 +29,10 @@ def same(first, second):
 
 
 def main():
-    os.makedirs(replay.PLACE, exist_ok=True)
-    program = sys.argv[1] if len(sys.argv) == 2 else os.path.join(TOP, "crates", "gfxcap", "out", "gfxcap")
-    if len(sys.argv) == 1:
-        replay.run([os.path.join(TOP, "gfxcap"), "info"], os.path.join(TOP, "examples", "first.gfxcap"))
+    os.makedirs(PLACE, exist_ok=True)
+    program = program_of(sys.argv[1:])
     for frames in (60, 1000):
-        path = replay.recording(program, frames)
+        path = recording(program, frames)
         listing = written([program, "list"], path, "listing")
         digits = written(["xxd", "-p"], path, "digits")
         assert same(path, written([program, "unlist"], listing, "again"))

@@ -9,22 +9,21 @@ The frames are of 640 by 480 texels, and a thirtieth of each is new. The recordi
 there. The program is built by the script `gfxcap` at the top of the repository, or is the one that the last word names.
 """
 import os
-import resource
 import subprocess
 import sys
-import time
 
 TOP = os.path.dirname(os.path.dirname(os.path.dirname(os.path.abspath(__file__))))
-sys.path.insert(0, os.path.join(TOP, "examples"))
+sys.path[:0] = [os.path.join(TOP, "examples"), os.path.join(TOP, "bench")]
 from blocks import call, fill_memory, header  # noqa: E402
+from measure import least, memory, program_of, run  # noqa: E402
 
 PLACE = "/tmp/gfxcap_replay"
-TIME = "/usr/bin/time"
+WRITTEN = os.path.join(PLACE, "written")
 WIDTH, HEIGHT = 640, 480
 FRAME = 4 * WIDTH * HEIGHT
 PART = FRAME // 30
 B8G8R8A8_UNORM = 44
-RUNS = 5
+ROUNDS = 9
 UNDEFINED, TRANSFER_DST_OPTIMAL, PRESENT_SRC_KHR = 0, 7, 1000001002
 
 
@@ -117,25 +116,6 @@ def as_many_bytes(frames):
     return path
 
 
-def run(words, path):
-    """Runs a program on a file, its output into another, and gives the seconds that it took."""
-    with open(path, "rb") as data, open(os.path.join(PLACE, "written"), "wb") as out:
-        start = time.perf_counter()
-        subprocess.run(words, stdin=data, stdout=out, check=True)
-        return time.perf_counter() - start
-
-
-def memory(words, path):
-    """The most memory that a program took, in kilobytes. Without GNU time it is at least what Python takes."""
-    if not os.path.exists(TIME):
-        run(words, path)
-        return resource.getrusage(resource.RUSAGE_CHILDREN).ru_maxrss
-    told = os.path.join(PLACE, "memory")
-    run([TIME, "-f", "%M", "-o", told, *words], path)
-    with open(told) as lines:
-        return int(lines.read())
-
-
 def begun(count):
     """So many command buffers, each of which fills a part of one buffer."""
     ids = list(range(1000, 1000 + count))
@@ -187,7 +167,7 @@ def seconds(program, blocks):
     path = os.path.join(PLACE, "ends.gfxcap")
     with open(path, "wb") as out:
         out.write(header() + b"".join(objects() + recorded(11, 6) + blocks + frame(1)))
-    return min(run([program, "replay"], path) for _ in range(RUNS))
+    return min(run([program, "replay"], path) for _ in range(ROUNDS))
 
 
 def ends(program):
@@ -203,13 +183,12 @@ def ends(program):
 
 
 def compare(words, path, other, other_path, most):
-    took = min(run(words, path) for _ in range(RUNS))
-    other_took = min(run(other, other_path) for _ in range(RUNS))
-    kilobytes = memory(words, path)
-    title = " ".join(words[1:])
+    """Prints how long a program takes beside another, both into a file, and the most memory that it takes."""
+    took, beside = least(ROUNDS, lambda: run(words, path, WRITTEN), lambda: run(other, other_path, WRITTEN))
     print(
-        f"{title:15} {took:8.3f} s   {other[0]} {other_took:8.3f} s   quotient {took / other_took:5.2f}"
-        f" (at most {most})   memory {kilobytes:8,} kB"
+        f"{' '.join(words[1:]):12} {took:8.3f} s   {' '.join(other):10} {beside:8.3f} s   quotient {took / beside:5.2f}"
+        f" (at most {most})   memory {memory(words, path, WRITTEN):8,} kB",
+        flush=True,
     )
 
 
@@ -218,9 +197,7 @@ def main():
     words = sys.argv[1:] or ["replay"]
     if words[0] not in ("replay", "ends", "trim") or len(words) > 2:
         sys.exit(__doc__)
-    program = words[1] if len(words) == 2 else os.path.join(TOP, "crates", "gfxcap", "out", "gfxcap")
-    if len(words) == 1:
-        run([os.path.join(TOP, "gfxcap"), "info"], os.path.join(TOP, "examples", "first.gfxcap"))
+    program = program_of(words[1:])
     if words[0] == "ends":
         ends(program)
         return
@@ -234,7 +211,4 @@ def main():
 
 
 if __name__ == "__main__":
-    try:
-        main()
-    except subprocess.CalledProcessError as failed:
-        sys.exit(str(failed))
+    main()

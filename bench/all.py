@@ -1,0 +1,60 @@
+#!/usr/bin/env python3
+"""Runs the scripts whose figures stand in README.md, one after another: one run on an idle machine.
+
+    all.py [PROGRAM]
+
+Before each of them, and at the end, it says how many times the work of one `sha256sum` as many at once do as there are processors. It
+begins when that is at least 0.95 times as many, which makes the machine an idle one; it looks once a minute, for ten minutes at most.
+The program is built by the script `gfxcap` at the top of the repository, or is the one that the word names.
+"""
+import os
+import subprocess
+import sys
+import time
+
+from measure import TOP, at_once, least, program_of, run
+
+SCRIPTS = [
+    "info/run.py",
+    "replay/run.py replay",
+    "replay/run.py ends",
+    "replay/run.py trim",
+    "listing/run.py",
+    "fan/run.py",
+    "lean/run.py",
+    "gather/run.py",
+    "capture/lines.py",
+    "hostile/run.py",
+    "hostile/commands.py",
+]
+CRATES = ["table", "objects", "pages", "device", "asked", "script", "seats", "capture"]
+ZEROS = "/tmp/gfxcap_zeros"
+BYTES, ROUNDS, IDLE, LOOKS = 1 << 27, 3, 0.95, 10
+
+
+def is_idle(processors):
+    """Looks once, and prints what it saw."""
+    one, many = least(ROUNDS, lambda: run(["sha256sum"], ZEROS), lambda: at_once(["sha256sum"], ZEROS, processors))
+    times = processors * one / many
+    idle = times >= IDLE * processors
+    print(f"{time.strftime('%T')} {processors} sha256sum at once: {times:.2f} times the work of one{'' if idle else ', not idle'}", flush=True)
+    return idle
+
+
+def main():
+    program, processors = program_of(sys.argv[1:]), len(os.sched_getaffinity(0))
+    with open(ZEROS, "wb") as out:
+        out.truncate(BYTES)
+    for _ in range(LOOKS):
+        if is_idle(processors):
+            break
+        time.sleep(60)
+    for script in [f"{script} {program}" for script in SCRIPTS] + [f"crates.py {crate}" for crate in CRATES]:
+        print(f"\n## {script}", flush=True)
+        path, *words = script.split()
+        subprocess.run([sys.executable, os.path.join(TOP, "bench", path), *words], check=True)
+        is_idle(processors)
+
+
+if __name__ == "__main__":
+    main()
