@@ -3,8 +3,8 @@
 
     all.py [PROGRAM]
 
-Before each of them, and at the end, it says how many times the work of one `sha256sum` as many at once do as there are processors. It
-begins when that is at least 0.95 times as many, which makes the machine an idle one; it looks once a minute, for ten minutes at most.
+A machine is idle when as many `sha256sum` at once as there are processors do at least 0.95 times as many times the work of one. It waits
+until that is so, by a look a minute, ten at most, and says it again after each script.
 The program is built by the script `gfxcap` at the top of the repository, or is the one that the word names.
 """
 import os
@@ -29,12 +29,12 @@ SCRIPTS = [
 ]
 CRATES = ["table", "objects", "pages", "device", "asked", "script", "seats", "capture"]
 ZEROS = "/tmp/gfxcap_zeros"
-BYTES, ROUNDS, IDLE, LOOKS = 1 << 27, 3, 0.95, 10
+BYTES, IDLE, LOOKS = 1 << 26, 0.95, 10
 
 
 def is_idle(processors):
     """Looks once, and prints what it saw."""
-    one, many = least(ROUNDS, lambda: run(["sha256sum"], ZEROS), lambda: at_once(["sha256sum"], ZEROS, processors))
+    one, many = least(lambda: run(["sha256sum"], ZEROS), lambda: at_once(["sha256sum"], ZEROS, processors))
     times = processors * one / many
     idle = times >= IDLE * processors
     print(f"{time.strftime('%T')} {processors} sha256sum at once: {times:.2f} times the work of one{'' if idle else ', not idle'}", flush=True)
@@ -45,10 +45,10 @@ def main():
     program, processors = program_of(sys.argv[1:]), len(os.sched_getaffinity(0))
     with open(ZEROS, "wb") as out:
         out.truncate(BYTES)
-    for _ in range(LOOKS):
-        if is_idle(processors):
-            break
+    looks = 1
+    while not is_idle(processors) and looks < LOOKS:
         time.sleep(60)
+        looks += 1
     for script in [f"{script} {program}" for script in SCRIPTS] + [f"crates.py {crate}" for crate in CRATES]:
         print(f"\n## {script}", flush=True)
         path, *words = script.split()

@@ -67,6 +67,7 @@ def main():
         sys.exit(__doc__)
     name = sys.argv[1]
     folder = workspace(name)
+    # rt builds a program by running it, and prints what it did with what the program prints
     built = subprocess.run(["rt", "run"], cwd=folder, capture_output=True, text=True, check=False)
     program = os.path.join(folder, "out", f"{name}_speed")
     if built.returncode or not os.path.exists(program):

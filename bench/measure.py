@@ -8,13 +8,15 @@ TOP = os.path.dirname(os.path.dirname(os.path.abspath(__file__)))
 BUILT = os.path.join(TOP, "crates", "gfxcap", "out", "gfxcap")
 FIRST = os.path.join(TOP, "examples", "first.gfxcap")
 GNU_TIME = "/usr/bin/time"
+ROUNDS = 9
 
 
 def program_of(words):
-    """The program that the first of the words names, or that the script `gfxcap` builds."""
+    """The program that the first of the words names, or that the script `gfxcap` builds, which says on standard error how far it is."""
     if words:
         return os.path.abspath(words[0])
-    run([os.path.join(TOP, "gfxcap"), "info"], FIRST)
+    with open(FIRST, "rb") as data:
+        subprocess.run([os.path.join(TOP, "gfxcap"), "info"], stdin=data, stdout=subprocess.DEVNULL, check=True)
     return BUILT
 
 
@@ -48,14 +50,14 @@ def at_once(words, path, count):
     return time.perf_counter() - start
 
 
-def turns(rounds, *jobs):
+def turns(*jobs):
     """What each job takes in rounds in which each has its turn, since a machine that others share is faster at one time than at another."""
-    return list(zip(*([job() for job in jobs] for _ in range(rounds))))
+    return list(zip(*([job() for job in jobs] for _ in range(ROUNDS))))
 
 
-def least(rounds, *jobs):
+def least(*jobs):
     """The least that each job takes in such rounds."""
-    return [min(times) for times in turns(rounds, *jobs)]
+    return [min(times) for times in turns(*jobs)]
 
 
 def memory(words, path, out=os.devnull):
@@ -66,3 +68,13 @@ def memory(words, path, out=os.devnull):
     run([GNU_TIME, "-f", "%M", "-o", "/tmp/gfxcap_memory", *words], path, out)
     with open("/tmp/gfxcap_memory", encoding="ascii") as lines:
         return int(lines.read())
+
+
+def compare(words, path, other, other_path, most, out):
+    """Prints how long a program takes beside another, what both print into a file, and the most memory that it takes."""
+    took, beside = least(lambda: run(words, path, out), lambda: run(other, other_path, out))
+    print(
+        f"{' '.join(words[1:]):12} {took:8.3f} s   {' '.join(other):10} {beside:8.3f} s   quotient {took / beside:5.2f}"
+        f" (at most {most})   memory {memory(words, path, out):8,} kB",
+        flush=True,
+    )

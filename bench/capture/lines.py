@@ -15,7 +15,6 @@ from measure import least, memory, program_of, run  # noqa: E402
 
 PLACE = "/tmp/gfxcap_lines"
 LINES = 1_000_000
-ROUNDS = 9
 
 
 def script(threads):
@@ -45,7 +44,7 @@ def main():
     os.makedirs(PLACE, exist_ok=True)
     program, paths = program_of(sys.argv[1:]), {threads: written(threads) for threads in (1, 8)}
     jobs = [lambda path=path: run([program, "capture"], path) for path in paths.values()]
-    for (threads, path), took in zip(paths.items(), least(ROUNDS, *jobs)):
+    for (threads, path), took in zip(paths.items(), least(*jobs)):
         kilobytes = memory([program, "capture"], path)
         print(f"{threads} threads: {took:.2f} s, {LINES / took:,.0f} lines a second (at least 300,000), {kilobytes:,} kB", flush=True)
 

@@ -17,8 +17,6 @@ sys.path[:0] = [os.path.join(TOP, "bench"), os.path.join(TOP, "bench", "replay")
 from measure import at_once, memory, program_of, run, turns  # noqa: E402
 from run import PLACE, recording  # noqa: E402
 
-ROUNDS = 9
-
 
 def lines(words, path):
     out = os.path.join(PLACE, "lines")
@@ -35,7 +33,7 @@ def main():
         path = recording(program, frames)
         assert lines(digests, path) == lines(replay, path)
         jobs = [lambda: run(replay, path), lambda: run(digests, path), lambda: at_once(replay, path, processors)]
-        times = turns(ROUNDS, *jobs)
+        times = turns(*jobs)
         one, many, beside = map(min, times)
         middle = statistics.median(alone / by_all for alone, by_all in zip(*times[:2]))
         print(

@@ -15,7 +15,6 @@ sys.path.insert(0, os.path.join(TOP, "bench"))
 from measure import least, program_of, run  # noqa: E402
 
 PLACE = "/tmp/gfxcap_gather"
-ROUNDS = 9
 WRITES = 100_000
 WIDTH = 1000
 SIZE = WRITES
@@ -72,7 +71,7 @@ def main():
         path = script(name, order)
         commands = {os.path.join(PLACE, "plain"): ["capture"], os.path.join(PLACE, "gathered"): ["capture", "--gather"]}
         jobs = [lambda words=words, out=out: run([program, *words], path, out) for out, words in commands.items()]
-        for (out, words), took in zip(commands.items(), least(ROUNDS, *jobs)):
+        for (out, words), took in zip(commands.items(), least(*jobs)):
             print(f"{name:10} {' '.join(words):18} {took:.3f} s  {os.path.getsize(out):12,} bytes", flush=True)
         plain, gathered = (frames(program, out) for out in commands)
         assert plain == gathered, name

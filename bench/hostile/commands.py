@@ -19,7 +19,7 @@ from measure import least, program_of, spent  # noqa: E402
 from run import BUFFER, DEVICE, FIRST, INSTANCE, MEMORY, QUEUE, R8_UINT, begin, end, fill, ids, objects, pools_of_one, submit  # noqa: E402
 
 PLACE = "/tmp/gfxcap_hostile"
-ROUNDS, GROWTH, FACTOR = 9, 5, 4
+GROWTH, FACTOR = 5, 4
 SURFACE, SWAPCHAIN, SHOWN, FENCE = 20, 21, 22, 23
 PRESENTED, TRANSFER = 1000001002, 7
 
@@ -345,7 +345,7 @@ def main():
             continue
         smaller, larger = written(make, n), written(make, FACTOR * n)
         jobs = [lambda path=path: 1000 * spent([program, *line.split()], path, wanted) for path in (smaller, larger)]
-        before, after = least(ROUNDS, *jobs)
+        before, after = least(*jobs)
         print(f"{line:17} {make.__name__:30} {os.path.getsize(larger):12,} {after:9.1f} {after / before:7.2f}", flush=True)
 
 

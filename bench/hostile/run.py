@@ -18,7 +18,7 @@ from blocks import call, header  # noqa: E402
 from measure import least, program_of, run  # noqa: E402
 
 PLACE = "/tmp/gfxcap_hostile"
-ROUNDS, GROWTH, FACTOR = 9, 5, 4
+GROWTH, FACTOR = 5, 4
 INSTANCE, SURFACE, DEVICE, QUEUE, POOL, MEMORY, BUFFER = 1, 2, 3, 4, 5, 6, 7
 FIRST = 1000  # ids from here on are the captures' own
 R8_UINT, GENERAL, ALL = 13, 1, 2**64 - 1
@@ -343,7 +343,7 @@ def main():
             continue
         smaller, larger = written(make, n), written(make, FACTOR * n)
         jobs = [("replay", smaller), ("info", larger), ("replay", larger)]
-        before, info, replay = least(ROUNDS, *(lambda word=word, path=path: 1000 * run([program, word], path) for word, path in jobs))
+        before, info, replay = least(*(lambda word=word, path=path: 1000 * run([program, word], path) for word, path in jobs))
         print(
             f"{make.__name__:20} {os.path.getsize(larger):12,} {info:8.1f} {replay:10.1f} {replay / info:9.1f} {aim or '':>5} {replay / before:7.2f}",
             flush=True,

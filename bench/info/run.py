@@ -16,7 +16,6 @@ PLACE = "/tmp/gfxcap_info"
 HEADER = struct.pack("<IIII", 0x52584647, 1000, 1, 0)
 UNMAP_MEMORY, FILL_MEMORY = 11, 2
 MEBIBYTE = 1 << 20
-ROUNDS = 9
 
 
 def block(kind, identity, fields):
@@ -46,7 +45,7 @@ def main():
     commands = [program, "info"], ["cat"], ["wc", "-c"]
     for title, path, blocks in files:
         size = os.path.getsize(path)
-        for words, took in zip(commands, least(ROUNDS, *(lambda words=words: run(words, path) for words in commands))):
+        for words, took in zip(commands, least(*(lambda words=words: run(words, path) for words in commands))):
             name = " ".join(os.path.basename(word) for word in words)
             print(f"{title:12} {name:12} {size / took / 1e6:9.1f} MB/s {blocks / took:12.0f} blocks/s")
 

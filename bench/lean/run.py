@@ -17,7 +17,7 @@ from blocks import call, fill_memory, header  # noqa: E402
 from measure import least, memory, program_of, run  # noqa: E402
 
 FRAMES, RANGE = 1000, "334-667"
-MEMORIES, MEBIBYTE, FIRST, ROUNDS = 60, 1 << 20, 1000, 9
+MEMORIES, MEBIBYTE, FIRST = 60, 1 << 20, 1000
 
 
 def unneeded():
@@ -43,7 +43,7 @@ def main():
     os.makedirs(replay.PLACE, exist_ok=True)
     program, path = program_of(sys.argv[1:]), recording()
     cuts = [[program, word, RANGE] for word in ("trim", "lean")]
-    took = least(ROUNDS, *(lambda words=words: run(words, path, replay.WRITTEN) for words in cuts))
+    took = least(*(lambda words=words: run(words, path, replay.WRITTEN) for words in cuts))
     for words, seconds in zip(cuts, took):
         kilobytes = memory(words, path, replay.WRITTEN)
         print(f"{' '.join(words[1:])}: {os.path.getsize(replay.WRITTEN):12,} bytes in {seconds:.3f} s, {kilobytes:,} kB", flush=True)

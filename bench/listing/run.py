@@ -12,8 +12,8 @@ import sys
 
 TOP = os.path.dirname(os.path.dirname(os.path.dirname(os.path.abspath(__file__))))
 sys.path[:0] = [os.path.join(TOP, "bench"), os.path.join(TOP, "bench", "replay")]
-from measure import program_of, run  # noqa: E402
-from run import PLACE, compare, recording  # noqa: E402
+from measure import compare, program_of, run  # noqa: E402
+from run import PLACE, WRITTEN, recording  # noqa: E402
 
 
 def written(words, path, name):
@@ -37,9 +37,9 @@ def main():
         digits = written(["xxd", "-p"], path, "digits")
         assert same(path, written([program, "unlist"], listing, "again"))
         print(f"{frames} frames, {os.path.getsize(path):,} bytes, as a listing {os.path.getsize(listing):,}")
-        compare([program, "list"], path, ["xxd", "-p"], path, 0.33)
-        compare([program, "unlist"], listing, ["xxd", "-r", "-p"], digits, 0.33)
-        compare([program, "upgrade"], path, ["cat"], path, 1.5)
+        compare([program, "list"], path, ["xxd", "-p"], path, 0.33, WRITTEN)
+        compare([program, "unlist"], listing, ["xxd", "-r", "-p"], digits, 0.33, WRITTEN)
+        compare([program, "upgrade"], path, ["cat"], path, 1.5, WRITTEN)
 
 
 if __name__ == "__main__":

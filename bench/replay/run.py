@@ -15,7 +15,7 @@ import sys
 TOP = os.path.dirname(os.path.dirname(os.path.dirname(os.path.abspath(__file__))))
 sys.path[:0] = [os.path.join(TOP, "examples"), os.path.join(TOP, "bench")]
 from blocks import call, fill_memory, header  # noqa: E402
-from measure import least, memory, program_of, run  # noqa: E402
+from measure import compare, least, program_of, run  # noqa: E402
 
 PLACE = "/tmp/gfxcap_replay"
 WRITTEN = os.path.join(PLACE, "written")
@@ -23,7 +23,6 @@ WIDTH, HEIGHT = 640, 480
 FRAME = 4 * WIDTH * HEIGHT
 PART = FRAME // 30
 B8G8R8A8_UNORM = 44
-ROUNDS = 9
 UNDEFINED, TRANSFER_DST_OPTIMAL, PRESENT_SRC_KHR = 0, 7, 1000001002
 
 
@@ -162,34 +161,22 @@ def freed(count):
     return [call("FreeCommandBuffers", device=3, pool=10, buffers=list(range(1000, 1000 + count)))]
 
 
-def seconds(program, blocks):
-    """How long a recording of these blocks and one frame takes to be replayed."""
-    path = os.path.join(PLACE, "ends.gfxcap")
+def ending(name, blocks):
+    """The path of a recording of these blocks and one frame."""
+    path = os.path.join(PLACE, f"{name}.gfxcap")
     with open(path, "wb") as out:
         out.write(header() + b"".join(objects() + recorded(11, 6) + blocks + frame(1)))
-    return min(run([program, "replay"], path) for _ in range(ROUNDS))
+    return path
 
 
 def ends(program):
+    ended = {"a fence": (fences(10000), 10000), "a buffer": (buffers(1000), 1000)}
     for count in (4096, 16384):
-        before = seconds(program, begun(count))
-        for title, blocks, number in (
-            ("a fence", fences(10000), 10000),
-            ("a buffer", buffers(1000), 1000),
-            ("a command buffer", freed(count), count),
-        ):
-            took = seconds(program, begun(count) + blocks) - before
-            print(f"{count:6} begun   {title:16} {took / number * 1e6:8.1f} us", flush=True)
-
-
-def compare(words, path, other, other_path, most):
-    """Prints how long a program takes beside another, both into a file, and the most memory that it takes."""
-    took, beside = least(ROUNDS, lambda: run(words, path, WRITTEN), lambda: run(other, other_path, WRITTEN))
-    print(
-        f"{' '.join(words[1:]):12} {took:8.3f} s   {' '.join(other):10} {beside:8.3f} s   quotient {took / beside:5.2f}"
-        f" (at most {most})   memory {memory(words, path, WRITTEN):8,} kB",
-        flush=True,
-    )
+        all_ended = ended | {"a command buffer": (freed(count), count)}
+        paths = [ending("begun", begun(count))] + [ending(f"ends.{at}", begun(count) + blocks) for at, (blocks, _) in enumerate(all_ended.values())]
+        before, *times = least(*(lambda path=path: run([program, "replay"], path) for path in paths))
+        for (title, (_, number)), took in zip(all_ended.items(), times):
+            print(f"{count:6} begun   {title:16} {(took - before) / number * 1e6:8.1f} us", flush=True)
 
 
 def main():
@@ -205,9 +192,9 @@ def main():
         path = recording(program, frames)
         print(f"{frames:5} frames   ", end="", flush=True)
         if words[0] == "replay":
-            compare([program, "replay"], path, ["sha256sum"], as_many_bytes(frames), 1.3)
+            compare([program, "replay"], path, ["sha256sum"], as_many_bytes(frames), 1.3, WRITTEN)
         else:
-            compare([program, "trim", f"{frames // 3}-{2 * frames // 3}"], path, ["cat"], path, 2)
+            compare([program, "trim", f"{frames // 3}-{2 * frames // 3}"], path, ["cat"], path, 2, WRITTEN)
 
 
 if __name__ == "__main__":
