@@ -3,8 +3,8 @@
 
     all.py [PROGRAM]
 
-A machine is idle when as many `sha256sum` at once as there are processors do at least 0.95 times as many times the work of one. It waits
-until that is so, by a look a minute, ten at most, and says it again after each script.
+A machine is idle when as many `sha256sum` at once as there are processors do at least 0.95 times as many times the work of one. Before
+each script it waits until that is so, by four looks a minute, 40 at most in the whole run, and after each it says whether it still is.
 The program is built by the script `gfxcap` at the top of the repository, or is the one that the word names.
 """
 import os
@@ -29,7 +29,7 @@ SCRIPTS = [
 ]
 CRATES = ["table", "objects", "pages", "device", "asked", "script", "seats", "capture"]
 ZEROS = "/tmp/gfxcap_zeros"
-BYTES, IDLE, LOOKS = 1 << 26, 0.95, 10
+BYTES, IDLE, LOOKS, PAUSE = 1 << 26, 0.95, 40, 15
 
 
 def is_idle(processors):
@@ -42,18 +42,19 @@ def is_idle(processors):
 
 
 def main():
-    program, processors = program_of(sys.argv[1:]), len(os.sched_getaffinity(0))
+    program, processors, left = program_of(sys.argv[1:]), len(os.sched_getaffinity(0)), LOOKS
     with open(ZEROS, "wb") as out:
         out.truncate(BYTES)
-    looks = 1
-    while not is_idle(processors) and looks < LOOKS:
-        time.sleep(60)
-        looks += 1
+    idle = is_idle(processors)
     for script in [f"{script} {program}" for script in SCRIPTS] + [f"crates.py {crate}" for crate in CRATES]:
+        while not idle and left > 0:
+            left -= 1
+            time.sleep(PAUSE)
+            idle = is_idle(processors)
         print(f"\n## {script}", flush=True)
         path, *words = script.split()
         subprocess.run([sys.executable, os.path.join(TOP, "bench", path), *words], check=True)
-        is_idle(processors)
+        idle = is_idle(processors)
 
 
 if __name__ == "__main__":
