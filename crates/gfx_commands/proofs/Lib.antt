@@ -6,7 +6,7 @@ pub mod Added
 pub mod Counting
 pub mod Buffers
 pub mod Named
-pub mod Laid
+pub mod Executed
 pub mod Running
 pub mod Naming
 pub mod Indexed

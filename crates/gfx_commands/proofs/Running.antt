@@ -7,7 +7,7 @@ use Rattle.gfx_model.specs.Events.Event.{CmdPipelineBarrier}
 use Rattle.gfx_model.specs.Spelling.{id_of}
 use Rattle.gfx_ops.specs.Operations.{is_barrier}
 use Rattle.gfx_commands.proofs.Added.{flat_map-more}
-use Rattle.gfx_commands.proofs.Laid.{take_next}
+use Rattle.gfx_commands.proofs.Executed.{take_next}
 
 pub flat_map-map : {X Y Z : Type 0} (f : Y → List Z) (g : X → Y) (xs : List X) → flat_map f (map g xs) ≡ flat_map (λ x. f (g x)) xs
 flat_map-map f g [] = refl

@@ -7,10 +7,15 @@ use Rattle.gfx_model.specs.Views.{View, is_live}
 use Rattle.gfx_model.specs.Checks.{Layouts, meets}
 use Rattle.gfx_model.specs.Checks.Layouts.{stays, goes}
 use Rattle.gfx_model.specs.Layouts.{asked_in, cbs_at, executed_before, layouts_by}
+use Rattle.gfx_commands.specs.declared.layouts.Place.{Place}
 
 -- these command buffers meet their layouts, one after the other
 abbrev pub AreMet : (ℕ → Buffer) → (ℕ → ℕ) → List ℕ → Type 0
 AreMet buffer layout cbs = meets layout (flat_map (asked_in buffer) cbs) ≡ true
+
+-- the layouts before a place of a call
+abbrev pub layouts_at : (ℕ → Buffer) → (ℕ → ℕ) → Place → ℕ → ℕ
+layouts_at buffer layout place = layouts_by buffer layout (executed_before place.submits.now place.submit place.at)
 
 -- the command buffer at a place of a call meets its layouts, after all that the call executes before it
 abbrev pub meets_at : (ℕ → Buffer) → (ℕ → ℕ) → List Submit → (submit at : ℕ) → Bool

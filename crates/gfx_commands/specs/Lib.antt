@@ -9,3 +9,4 @@ pub mod Counted
 pub mod Runnable
 pub mod Distinct
 pub mod Differing
+pub mod Laid

@@ -5,14 +5,24 @@ ghost use Rattle.gfx_model.specs.Checks.{layouts_after, meets};
 ghost use Rattle.gfx_model.specs.Layouts.{asked_in, cbs_at, executed_before, layouts_by};
 ghost use Rattle.gfx_model.specs.Limits.{max_submits, max_submit_buffers};
 ghost use Rattle.gfx_objects.specs.Objects.{answers};
+ghost use Rattle.gfx_commands.specs.Laid.{IsLaid};
 ghost use Rattle.gfx_commands.specs.Uses.{use_of, suits};
 ghost use Rattle.gfx_commands.specs.Recordings.{buffers};
-ghost use Rattle.gfx_commands.specs.Differing.{AreMet, IsFirstDiffering, meets_at, SetsLive};
+ghost use Rattle.gfx_commands.specs.Differing.{AreMet, IsFirstDiffering, layouts_at, meets_at, SetsLive};
 
+use crate::laid::Laid;
 use crate::recordings::Recordings;
 use crate::uses::Uses;
 use gfx_objects::Objects;
 use gfx_types::{Submit, Submits};
+
+/// A place of a call: the command buffer at `at` of its submit `submit`, or behind its last.
+#[derive(Clone, Copy)]
+pub(crate) struct Place<'s> {
+    pub(crate) submits: &'s [Submit],
+    pub(crate) submit: usize,
+    pub(crate) at: usize,
+}
 
 impl Recordings {
     /// The first place of a call, as a submit and a place among its command buffers, at which a command buffer does not
@@ -23,8 +33,9 @@ impl Recordings {
         ensures { IsFirstDiffering (buffers self.now) (answers objects.now).layout submits.now result }
     {
         let all = submits.items();
+        let mut laid = Laid::new(self.allocator());
         'submits: for submit in 0..all.len() {
-            if let Some(at) = self.differs_in(all, submit, objects) {
+            if let Some(at) = self.differs_in(all, submit, objects, &mut laid) {
                 return Some((submit as u32, at as u32));
             }
         }
@@ -32,61 +43,68 @@ impl Recordings {
     }
 
     // The first command buffer of a submit that does not meet its layouts, where all before the submit meet theirs.
-    fn differs_in(&self, submits: &[Submit], submit: usize, objects: &Objects) -> Option<usize>
+    fn differs_in(
+        &self,
+        submits: &[Submit],
+        submit: usize,
+        objects: &Objects,
+        laid: &mut Laid,
+    ) -> Option<usize>
         requires submit { submit < length submits.now }
         requires met { AreMet (buffers self.now) (answers objects.now).layout (executed_before submits.now submit 0) }
+        requires laid { IsLaid laid.old (answers objects.now).layout (layouts_by (buffers self.now) (answers objects.now).layout (executed_before submits.now submit 0)) }
         ensures inside { IfSome result (λ at. at < length (cbs_at submits.now submit)) }
         ensures differs { IfSome result (λ at. meets_at (buffers self.now) (answers objects.now).layout submits.now submit at ≡ false) }
         ensures before { (at : ℕ) → at < length (cbs_at submits.now submit) → IfSome result (λ place. at < place)
             → meets_at (buffers self.now) (answers objects.now).layout submits.now submit at ≡ true }
         ensures met { result ≡ None → AreMet (buffers self.now) (answers objects.now).layout (executed_before submits.now (submit + 1) 0) }
+        ensures laid { result ≡ None → IsLaid laid.new (answers objects.now).layout (layouts_by (buffers self.now) (answers objects.now).layout (executed_before submits.now (submit + 1) 0)) }
     {
         let cbs = submits[submit].cbs.items();
         'buffers: for at in 0..cbs.len() {
-            if self.layout_differs(submits, submit, at, cbs[at], objects) {
+            let place = Place {
+                submits,
+                submit,
+                at,
+            };
+            if self.layout_differs(place, cbs[at], objects, laid) {
                 return Some(at);
             }
         }
         None
     }
 
-    // Whether the buffer at a place of a call meets a layout other than the one that it asks for.
-    fn layout_differs(
-        &self,
-        submits: &[Submit],
-        submit: usize,
-        at: usize,
-        cb: u64,
-        objects: &Objects,
-    ) -> bool
-        requires submit { submit < length submits.now }
-        requires at { at ≤ length (cbs_at submits.now submit) }
-        requires met { AreMet (buffers self.now) (answers objects.now).layout (executed_before submits.now submit at) }
-        ensures { result ≡ not (meets (layouts_by (buffers self.now) (answers objects.now).layout (executed_before submits.now submit at)) (asked_in (buffers self.now) cb)) }
+    // Whether the buffer at a place of a call meets a layout other than the one that it asks for. Where it meets each, the layouts
+    // that it leaves are laid.
+    fn layout_differs(&self, place: Place<'_>, cb: u64, objects: &Objects, laid: &mut Laid) -> bool
+        requires submit { place.submit < length place.submits.now }
+        requires at { place.at ≤ length (cbs_at place.submits.now place.submit) }
+        requires met { AreMet (buffers self.now) (answers objects.now).layout (executed_before place.submits.now place.submit place.at) }
+        requires laid { IsLaid laid.old (answers objects.now).layout (layouts_at (buffers self.now) (answers objects.now).layout place) }
+        ensures differs { result ≡ not (meets (layouts_at (buffers self.now) (answers objects.now).layout place.entry) (asked_in (buffers self.now) cb)) }
+        ensures laid { result ≡ false → IsLaid laid.new (answers objects.now).layout (layouts_after (layouts_at (buffers self.now) (answers objects.now).layout place.entry) (asked_in (buffers self.now) cb)) }
     {
-        match self.uses(cb) {
-            Some(uses) => !uses.agrees || self.image_differs(uses, submits, submit, at, objects),
-            None => false,
+        let Some(uses) = self.uses(cb) else {
+            return false;
+        };
+        if !uses.agrees || self.image_differs(uses, place, objects, laid) {
+            return true;
         }
+        laid.leave(uses);
+        false
     }
 
     // Whether an image has another layout than the uses want, before the place of the call.
-    fn image_differs(
-        &self,
-        uses: &Uses,
-        submits: &[Submit],
-        submit: usize,
-        at: usize,
-        objects: &Objects,
-    ) -> bool
-        requires submit { submit < length submits.now }
-        requires at { at ≤ length (cbs_at submits.now submit) }
-        requires met { AreMet (buffers self.now) (answers objects.now).layout (executed_before submits.now submit at) }
-        ensures differs { result ≡ true → (x : ℕ) × (suits (use_of uses.now.table.map x).wanted (layouts_by (buffers self.now) (answers objects.now).layout (executed_before submits.now submit at) x) ≡ false) }
-        ensures suits { result ≡ false → (x : ℕ) → suits (use_of uses.now.table.map x).wanted (layouts_by (buffers self.now) (answers objects.now).layout (executed_before submits.now submit at) x) ≡ true }
+    fn image_differs(&self, uses: &Uses, place: Place<'_>, objects: &Objects, laid: &Laid) -> bool
+        requires submit { place.submit < length place.submits.now }
+        requires at { place.at ≤ length (cbs_at place.submits.now place.submit) }
+        requires met { AreMet (buffers self.now) (answers objects.now).layout (executed_before place.submits.now place.submit place.at) }
+        requires laid { IsLaid laid.now (answers objects.now).layout (layouts_at (buffers self.now) (answers objects.now).layout place) }
+        ensures differs { result ≡ true → (x : ℕ) × (suits (use_of uses.now.table.map x).wanted (layouts_at (buffers self.now) (answers objects.now).layout place.entry x) ≡ false) }
+        ensures suits { result ≡ false → (x : ℕ) → suits (use_of uses.now.table.map x).wanted (layouts_at (buffers self.now) (answers objects.now).layout place.entry x) ≡ true }
     {
         'images: for image in uses.ids() {
-            if self.wants_another(uses, submits, submit, at, objects, *image) {
+            if self.wants_another(uses, place, objects, laid, *image) {
                 return true;
             }
         }
@@ -97,38 +115,50 @@ impl Recordings {
     fn wants_another(
         &self,
         uses: &Uses,
-        submits: &[Submit],
-        submit: usize,
-        at: usize,
+        place: Place<'_>,
         objects: &Objects,
+        laid: &Laid,
         image: u64,
     ) -> bool
-        requires submit { submit < length submits.now }
-        requires at { at ≤ length (cbs_at submits.now submit) }
-        requires met { AreMet (buffers self.now) (answers objects.now).layout (executed_before submits.now submit at) }
-        ensures { result ≡ not (suits (use_of uses.now.table.map image).wanted (layouts_by (buffers self.now) (answers objects.now).layout (executed_before submits.now submit at) image)) }
+        requires submit { place.submit < length place.submits.now }
+        requires at { place.at ≤ length (cbs_at place.submits.now place.submit) }
+        requires met { AreMet (buffers self.now) (answers objects.now).layout (executed_before place.submits.now place.submit place.at) }
+        requires laid { IsLaid laid.now (answers objects.now).layout (layouts_at (buffers self.now) (answers objects.now).layout place) }
+        ensures { result ≡ not (suits (use_of uses.now.table.map image).wanted (layouts_at (buffers self.now) (answers objects.now).layout place.entry image)) }
     {
         match uses.get(image).wanted {
-            Some(wanted) => wanted != self.layout_before(submits, submit, at, objects, image),
+            Some(wanted) => wanted != self.layout_before(place, objects, laid, image),
             None => false,
         }
     }
 
-    // The layout of an image before the place of the call, where all before the place meet theirs: the newest of them that
-    // asks for the image decides.
-    fn layout_before(
-        &self,
-        submits: &[Submit],
-        submit: usize,
-        at: usize,
-        objects: &Objects,
-        image: u64,
-    ) -> u32
-        requires submit { submit < length submits.now }
-        requires at { at ≤ length (cbs_at submits.now submit) }
-        requires met { AreMet (buffers self.now) (answers objects.now).layout (executed_before submits.now submit at) }
-        ensures { result ≡ layouts_by (buffers self.now) (answers objects.now).layout (executed_before submits.now submit at) image }
+    // The layout of an image before the place of the call, where all before the place meet theirs.
+    fn layout_before(&self, place: Place<'_>, objects: &Objects, laid: &Laid, image: u64) -> u32
+        requires submit { place.submit < length place.submits.now }
+        requires at { place.at ≤ length (cbs_at place.submits.now place.submit) }
+        requires met { AreMet (buffers self.now) (answers objects.now).layout (executed_before place.submits.now place.submit place.at) }
+        requires laid { IsLaid laid.now (answers objects.now).layout (layouts_at (buffers self.now) (answers objects.now).layout place) }
+        ensures { result ≡ layouts_at (buffers self.now) (answers objects.now).layout place.entry image }
     {
+        if laid.is_whole {
+            laid.layout(image, objects)
+        } else {
+            self.layout_sought(place, objects, image)
+        }
+    }
+
+    // The same, found without memory: the newest buffer before the place that asks for the image decides.
+    fn layout_sought(&self, place: Place<'_>, objects: &Objects, image: u64) -> u32
+        requires submit { place.submit < length place.submits.now }
+        requires at { place.at ≤ length (cbs_at place.submits.now place.submit) }
+        requires met { AreMet (buffers self.now) (answers objects.now).layout (executed_before place.submits.now place.submit place.at) }
+        ensures { result ≡ layouts_at (buffers self.now) (answers objects.now).layout place.entry image }
+    {
+        let Place {
+            submits,
+            submit,
+            at,
+        } = place;
         if let Some(layout) = self.known_by(&submits[submit].cbs.items()[..at], image) {
             return layout;
         }

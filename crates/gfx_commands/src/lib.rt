@@ -2,6 +2,7 @@
 #![tactic(auto)]
 
 mod commands;
+mod laid;
 mod layouts;
 mod recorded;
 mod recording;

@@ -230,6 +230,11 @@ impl Recordings {
         }
     }
 
+    /// Where memory comes from.
+    pub(crate) fn allocator(&self) -> Global {
+        self.alloc
+    }
+
     /// The uses of a buffer; those of a buffer that isn't kept are none.
     pub(crate) fn uses(&self, cb: u64) -> Option<&Uses>
         ensures index { IfSome result (λ u. IsIndex u.now.table.map u.now.agrees (flat_map resources_of (buffers self.now cb).commands) (asked_in (buffers self.now) cb)) }

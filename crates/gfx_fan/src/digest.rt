@@ -34,7 +34,7 @@ impl Pixels for Picture {
     }
 }
 
-/// Pages are digested where they lie.
+/// Pages are read through a buffer, piece by piece.
 impl Pixels for Bytes {
     ghost pixels = { λ bytes. bytes };
 

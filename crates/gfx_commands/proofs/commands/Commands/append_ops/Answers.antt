@@ -15,7 +15,7 @@ use Rattle.gfx_commands.specs.Recorded.{event_with, AreFields}
 use Rattle.gfx_commands.specs.Runnable.{IsRunnable}
 use Rattle.gfx_commands.proofs.Cuts.{start_behind, length-cut}
 use Rattle.gfx_commands.proofs.Added.{all_at, within, event_there, fields_there, length-events}
-use Rattle.gfx_commands.proofs.Laid.{get_at}
+use Rattle.gfx_commands.proofs.Executed.{get_at}
 use Rattle.gfx_commands.proofs.Running.{front_kept, ops_more}
 use Rattle.gfx_commands.proofs.commands.Commands.append_ops.Goals as goal
 

@@ -2,7 +2,7 @@ use Rattle.std.proofs.Common.{◌≡◌, ◌+◌, ◌-◌, Some, None, get_or, t
 use Rattle.gfx_commands.specs.Recordings.{buffers}
 use Rattle.gfx_commands.specs.Differing.{AreMet}
 use Rattle.gfx_model.specs.Layouts.{layouts_by}
-use Rattle.gfx_commands.proofs.Laid.{get_at, last_buffer, fewer_buffers}
+use Rattle.gfx_commands.proofs.Executed.{get_at, last_buffer, fewer_buffers}
 use Rattle.gfx_commands.proofs.recordings.Recordings.known_by.Goals as goal
 
 pub returns-in-Some : goal.returns-in-Some

@@ -10,8 +10,9 @@ use Rattle.gfx_model.specs.After.{after}
 use Rattle.gfx_objects.specs.Objects.{Kept, answers}
 use Rattle.gfx_commands.specs.declared.uses.Use.{Use}
 use Rattle.gfx_commands.specs.Recordings.{buffers}
-use Rattle.gfx_commands.proofs.Laid.{get_at, take_next}
-use Rattle.gfx_commands.proofs.Leaving.{left_by, left_live, none_more, one_more, answers_began}
+use Rattle.gfx_commands.proofs.Executed.{get_at, take_next}
+use Rattle.gfx_commands.specs.Laid.{left_by}
+use Rattle.gfx_commands.proofs.Leaving.{left_live, none_more, one_more, answers_began}
 use Rattle.gfx_commands.proofs.recordings.Recordings.leave_layouts.Goals.{in-Some-left, in_default-left}
 use Rattle.gfx_commands.proofs.recordings.Recordings.leave_layouts.Goals as goal
 

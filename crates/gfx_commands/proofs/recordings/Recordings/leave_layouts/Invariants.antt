@@ -1,6 +1,6 @@
 use Rattle.std.proofs.Common.{◌≡◌, take}
 use Rattle.gfx_objects.specs.Objects.{answers}
-use Rattle.gfx_commands.proofs.Leaving.{left_by}
+use Rattle.gfx_commands.specs.Laid.{left_by}
 use Rattle.gfx_commands.proofs.recordings.Recordings.leave_layouts.Given as goal
 
 -- the layouts of the images so far were set

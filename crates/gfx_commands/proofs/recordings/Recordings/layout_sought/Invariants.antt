@@ -5,7 +5,7 @@ use Rattle.gfx_objects.specs.Objects.{answers}
 use Rattle.gfx_commands.specs.Recordings.{buffers}
 use Rattle.gfx_commands.specs.Differing.{AreMet}
 use Rattle.gfx_model.specs.Layouts.{executed_before, layouts_by}
-use Rattle.gfx_commands.proofs.recordings.Recordings.layout_before.Given as goal
+use Rattle.gfx_commands.proofs.recordings.Recordings.layout_sought.Given as goal
 
 -- what is executed from the submit `end` on, up to the place, does not ask for the image
 abbrev pub invariant-submits : goal.invariant-submits

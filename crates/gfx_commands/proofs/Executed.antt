@@ -75,6 +75,10 @@ module _ (b : ℕ → Buffer) where
   met_one : (layout : ℕ → ℕ) (cb : ℕ) → AreMet b layout (cb ∷ []) → meets layout (asked_in b cb) ≡ true
   met_one layout cb met = ap (meets layout) (sym (append-nil (asked_in b cb))) ∙ met
 
+  -- the layouts after one more
+  pub by_next : (layout : ℕ → ℕ) (xs : List ℕ) (cb : ℕ) → layouts_by b layout (xs ++ cb ∷ []) ≡ layouts_after (layouts_by b layout xs) (asked_in b cb)
+  by_next layout xs cb = by_append layout xs (cb ∷ []) ∙ by_one (layouts_by b layout xs) cb
+
   -- one that meets its layouts after others that meet theirs
   met_more : (layout : ℕ → ℕ) (xs : List ℕ) (cb : ℕ) → AreMet b layout xs → meets (layouts_by b layout xs) (asked_in b cb) ≡ true → AreMet b layout (xs ++ cb ∷ [])
   met_more layout xs cb met one =
@@ -131,20 +135,29 @@ module _ (b : ℕ → Buffer) where
         ∙ ap (λ xs. layouts_by b before (take at xs) image) are
         ∙ leaves before (subst (λ xs. AreMet b before (take at xs)) are halves.1)
 
-    -- where the buffer at the place meets its layouts too
-    pub place_more : (cb : ℕ) → slice_get (cbs_at submits submit) at ≡ Some cb
-        → meets (layouts_by b layout (executed_before submits submit at)) (asked_in b cb) ≡ true → AreMet b layout (executed_before submits submit (at + 1))
-    place_more cb here one =
-        let before = cbs_of (take submit submits) in
-        subst (AreMet b layout)
-        (append_assoc before (take at (cbs_at submits submit)) (cb ∷ []) ∙ ap (λ l. before ++ l) (sym (take_next cb (cbs_at submits submit) at here)))
-        (met_more layout (executed_before submits submit at) cb met one)
+-- ---- one place more
 
-    -- where the place is behind all buffers of its submit
-    pub submit_more : (s : Submit) → slice_get submits submit ≡ Some s → length (cbs_at submits submit) ≤ at → AreMet b layout (executed_before submits (submit + 1) 0)
-    submit_more s here whole =
-        let before = cbs_of (take submit submits) in
-        subst (AreMet b layout)
-        (ap (λ l. before ++ l) (take_whole (cbs_at submits submit) at whole ∙ part_of submits submit s here s.cbs refl)
-        ∙ sym (cbs_next submits submit s here) ∙ sym (append-nil (cbs_of (take (submit + 1) submits))))
-        met
+-- behind the buffer at a place
+executed_next : (submits : List Submit) (submit at cb : ℕ) → slice_get (cbs_at submits submit) at ≡ Some cb → executed_before submits submit (at + 1) ≡ executed_before submits submit at ++ cb ∷ []
+executed_next submits submit at cb here =
+    let before = cbs_of (take submit submits) in
+    ap (λ l. before ++ l) (take_next cb (cbs_at submits submit) at here) ∙ sym (append_assoc before (take at (cbs_at submits submit)) (cb ∷ []))
+
+-- behind all buffers of a submit
+pub executed_whole : (submits : List Submit) (submit at : ℕ) (s : Submit) → slice_get submits submit ≡ Some s → length (cbs_at submits submit) ≤ at →
+    executed_before submits submit at ≡ executed_before submits (submit + 1) 0
+executed_whole submits submit at s here whole =
+    let before = cbs_of (take submit submits) in
+    ap (λ l. before ++ l) (take_whole (cbs_at submits submit) at whole ∙ part_of submits submit s here s.cbs refl)
+    ∙ sym (cbs_next submits submit s here) ∙ sym (append-nil (cbs_of (take (submit + 1) submits)))
+
+module _ (b : ℕ → Buffer) (layout : ℕ → ℕ) (submits : List Submit) (submit at : ℕ) where
+  -- where the buffer at the place meets its layouts too
+  pub place_more : AreMet b layout (executed_before submits submit at) → (cb : ℕ) → slice_get (cbs_at submits submit) at ≡ Some cb
+      → meets (layouts_by b layout (executed_before submits submit at)) (asked_in b cb) ≡ true → AreMet b layout (executed_before submits submit (at + 1))
+  place_more met cb here one = subst (AreMet b layout) (sym (executed_next submits submit at cb here)) (met_more b layout (executed_before submits submit at) cb met one)
+
+  -- the layouts behind it
+  pub laid_next : (cb : ℕ) → slice_get (cbs_at submits submit) at ≡ Some cb
+      → layouts_by b layout (executed_before submits submit (at + 1)) ≡ layouts_after (layouts_by b layout (executed_before submits submit at)) (asked_in b cb)
+  laid_next cb here = ap (layouts_by b layout) (executed_next submits submit at cb here) ∙ by_next b layout (executed_before submits submit at) cb
