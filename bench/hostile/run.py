@@ -298,6 +298,20 @@ def images_asked_for(n):
     yield submit(groups_of(buffers))
 
 
+def images_of_their_own(n):
+    """Two submits of buffers each of which has 60 images of its own: the first changes their layouts, the second asks for them."""
+    yield from objects()
+    some = ids(60 * n, 10**6)
+    yield from images(60 * n, 10**6)
+    buffers = ids(n)
+    yield from allocated(buffers)
+    for before in (0, GENERAL):
+        for at, buffer in enumerate(buffers):
+            barriers = [(image, before, GENERAL) for image in some[60 * at : 60 * at + 60]]
+            yield begin(buffer) + call("CmdPipelineBarrier", cb=buffer, barriers=barriers) + end(buffer)
+        yield submit(groups_of(buffers))
+
+
 # the name, the smaller size, and what the quotient is wanted to be for the larger one, where that was said
 CAPTURES = [
     (one_long_buffer, 4000, 3),
@@ -319,6 +333,7 @@ CAPTURES = [
     (swapchains, 2000, None),
     (devices, 2000, None),
     (images_asked_for, 256, None),
+    (images_of_their_own, 256, None),
 ]
 
 
