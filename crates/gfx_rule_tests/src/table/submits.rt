@@ -30,6 +30,7 @@ QueueSubmit: a barrier meets what a barrier before it left | Device Resources Re
 QueueSubmit: a clear meets another layout | Device Resources Recording | CmdPipelineBarrier(11, 1, 12, 0, 1); CmdClearColorImage(11, 12, 7, 0, 0, 0, 0); EndCommandBuffer(11) | QueueSubmit(4, 1, 0, 1, 11, 0, 0) | LayoutDiffers
 QueueSubmit: a copy meets another layout of its source | Device Resources Recording | CmdPipelineBarrier(11, 2, 12, 0, 7, 22, 0, 7); CmdCopyImage(11, 12, 6, 22, 7, 1, 0, 0, 0, 0, 4, 4); EndCommandBuffer(11) | QueueSubmit(4, 1, 0, 1, 11, 0, 0) | LayoutDiffers
 QueueSubmit: a copy meets another layout of its target | Device Resources Recording | CmdPipelineBarrier(11, 2, 12, 0, 6, 22, 0, 6); CmdCopyImage(11, 12, 6, 22, 7, 1, 0, 0, 0, 0, 4, 4); EndCommandBuffer(11) | QueueSubmit(4, 1, 0, 1, 11, 0, 0) | LayoutDiffers
+QueueSubmit: a clear meets what an earlier buffer left | Device Resources Second | BeginCommandBuffer(15, 0); CmdPipelineBarrier(15, 1, 12, 0, 6); EndCommandBuffer(15); BeginCommandBuffer(11, 0); CmdClearColorImage(11, 12, 7, 0, 0, 0, 0); EndCommandBuffer(11) | QueueSubmit(4, 1, 0, 2, 15, 11, 0, 0) | LayoutDiffers
 QueueSubmit: a signal that is signalled | Device Semaphores | - | QueueSubmit(4, 1, 0, 0, 1, 31, 0) | SignalState
 QueueSubmit: a signal twice | Device Semaphores | - | QueueSubmit(4, 2, 0, 0, 1, 30, 0, 0, 1, 30, 0) | SignalState
 QueueSubmit: a fence that is signalled | Device Fences | - | QueueSubmit(4, 0, 21) | SignalState
@@ -71,4 +72,5 @@ QueueSubmit: a buffer with flag 4 again | Device Pool | BeginCommandBuffer(11, 4
 QueueSubmit: layouts one after another | Device Resources Recording | CmdPipelineBarrier(11, 2, 12, 0, 7, 12, 7, 6); CmdCopyImageToBuffer(11, 12, 6, 9, 1, 0, 0, 0, 0, 0, 4, 4); EndCommandBuffer(11) | QueueSubmit(4, 1, 0, 1, 11, 0, 0) | taken
 QueueSubmit: a barrier from UNDEFINED, whatever there was | Device Resources Recording | CmdPipelineBarrier(11, 1, 12, 0, 7); EndCommandBuffer(11); QueueSubmit(4, 1, 0, 1, 11, 0, 0) | QueueSubmit(4, 1, 0, 1, 11, 0, 0) | taken
 QueueSubmit: a layout that an earlier buffer left | Device Resources Second | BeginCommandBuffer(15, 0); CmdPipelineBarrier(15, 1, 12, 0, 7); EndCommandBuffer(15); BeginCommandBuffer(11, 0); CmdClearColorImage(11, 12, 7, 0, 0, 0, 0); EndCommandBuffer(11) | QueueSubmit(4, 2, 0, 1, 15, 0, 0, 1, 11, 0, 0) | taken
+QueueSubmit: a layout that an earlier buffer of the same submit left | Device Resources Second | BeginCommandBuffer(15, 0); CmdPipelineBarrier(15, 1, 12, 0, 7); EndCommandBuffer(15); BeginCommandBuffer(11, 0); CmdClearColorImage(11, 12, 7, 0, 0, 0, 0); EndCommandBuffer(11) | QueueSubmit(4, 1, 0, 2, 15, 11, 0, 0) | taken
 ";
