@@ -4,7 +4,7 @@
     all.py [PROGRAM]
 
 A machine is idle when as many `sha256sum` at once as there are processors do at least 0.95 times as many times the work of one. Before
-each script it waits until that is so, by four looks a minute, 40 at most in the whole run, and after each it says whether it still is.
+each script it waits until that is so, by two looks a minute, 20 at most in the whole run, and after each it says whether it still is.
 The program is built by the script `gfxcap` at the top of the repository, or is the one that the word names.
 """
 import os
@@ -29,7 +29,7 @@ SCRIPTS = [
 ]
 CRATES = ["table", "objects", "pages", "device", "asked", "script", "seats", "capture"]
 ZEROS = "/tmp/gfxcap_zeros"
-BYTES, IDLE, LOOKS, PAUSE = 1 << 26, 0.95, 40, 15
+BYTES, IDLE, LOOKS, PAUSE = 1 << 26, 0.95, 20, 15
 
 
 def is_idle(processors):
