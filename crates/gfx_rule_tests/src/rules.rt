@@ -47,7 +47,7 @@ fn each_check_of_queues_and_sections_is_broken(rt: HostRuntime) -> Result<(), Fa
         metadata::OUTSIDE,
         limits::LISTS,
     ];
-    try_tables(&rt, rt.alloc(), &tables, 199)
+    try_tables(&rt, rt.alloc(), &tables, 200)
 }
 
 #[test]
@@ -87,7 +87,7 @@ fn effects_that_break_no_check_are_taken(rt: HostRuntime) -> Result<(), Fail> {
         presents::GOOD,
         metadata::GOOD,
     ];
-    try_tables(&rt, rt.alloc(), &tables, 120)
+    try_tables(&rt, rt.alloc(), &tables, 121)
 }
 
 #[test]
