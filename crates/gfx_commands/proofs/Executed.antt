@@ -1,5 +1,5 @@
 -- The layouts that buffers leave, one buffer after the other.
-use Rattle.std.proofs.Common.{◌≡◌, ℕ, ◌+◌, ◌<◌, ◌≤◌, Bool, true, false, ◌&&◌, List, [], ◌∷◌, ◌++◌, length, take, get_or, Option, Some, unwrap_or, refl, ap, sym, ◌∙◌, subst, arith, append_assoc, append-nil}
+use Rattle.std.proofs.Common.{◌≡◌, ℕ, ◌+◌, ◌-◌, ◌<◌, ◌≤◌, Bool, true, false, ◌&&◌, List, [], ◌∷◌, ◌++◌, length, take, get_or, Option, Some, unwrap_or, refl, ap, sym, ◌∙◌, subst, arith, append_assoc, append-nil}
 use Rattle.std.specs.Prelude.{flat_map, slice_get, zero, suc}
 use Rattle.std.proofs.Common.{add-one}
 use Rattle.std.specs.Option.{option_map_or}
@@ -76,7 +76,7 @@ module _ (b : ℕ → Buffer) where
   met_one layout cb met = ap (meets layout) (sym (append-nil (asked_in b cb))) ∙ met
 
   -- the layouts after one more
-  pub by_next : (layout : ℕ → ℕ) (xs : List ℕ) (cb : ℕ) → layouts_by b layout (xs ++ cb ∷ []) ≡ layouts_after (layouts_by b layout xs) (asked_in b cb)
+  by_next : (layout : ℕ → ℕ) (xs : List ℕ) (cb : ℕ) → layouts_by b layout (xs ++ cb ∷ []) ≡ layouts_after (layouts_by b layout xs) (asked_in b cb)
   by_next layout xs cb = by_append layout xs (cb ∷ []) ∙ by_one (layouts_by b layout xs) cb
 
   -- one that meets its layouts after others that meet theirs
@@ -107,16 +107,31 @@ module _ (b : ℕ → Buffer) where
     abbrev parts : (AreMet b layout (cbs_of (take n submits))) × (AreMet b (layouts_by b layout (cbs_of (take n submits))) s.cbs)
     parts = met_parts layout (cbs_of (take n submits)) s.cbs (subst (AreMet b layout) (cbs_next submits n s at) met)
 
-    pub fewer_submits : AreMet b layout (cbs_of (take n submits))
+    fewer_submits : AreMet b layout (cbs_of (take n submits))
     fewer_submits = parts.0
 
-    pub last_submit : (image : ℕ) (known : Option ℕ)
+    last_submit : (image : ℕ) (known : Option ℕ)
         → ((layout : ℕ → ℕ) → AreMet b layout s.cbs → layouts_by b layout s.cbs image ≡ unwrap_or known (layout image))
         → layouts_by b layout (cbs_of (take (n + 1) submits)) image ≡ unwrap_or known (layouts_by b layout (cbs_of (take n submits)) image)
     last_submit image known leaves =
         ap (λ l. layouts_by b layout l image) (cbs_next submits n s at)
         ∙ ap (λ f. f image) (by_append layout (cbs_of (take n submits)) s.cbs)
         ∙ leaves (layouts_by b layout (cbs_of (take n submits))) parts.1
+
+  -- of the submits up to `end` the last one decides, and those before it meet their layouts too
+  pub one_submit_less : (submits : List Submit) (end : ℕ) (s : Submit) (layout : ℕ → ℕ) → 0 < end → end - 1 < length submits → s ≡ get_or submits (end - 1) s → AreMet b layout (cbs_of (take end submits)) →
+      (cbs : List ℕ) → cbs ≡ s.cbs → (image : ℕ) (known : Option ℕ) → ((layout : ℕ → ℕ) → AreMet b layout cbs → layouts_by b layout cbs image ≡ unwrap_or known (layout image)) →
+      (AreMet b layout (cbs_of (take (end - 1) submits))) × (layouts_by b layout (cbs_of (take end submits)) image ≡ unwrap_or known (layouts_by b layout (cbs_of (take (end - 1) submits)) image))
+  one_submit_less submits end s layout some below is met cbs are image known leaves =
+      let n = end - 1 in
+      let next : end ≡ n + 1 = omega (arith, some) in
+      let at = get_at submits n s s below is in
+      let cut = subst (λ k. AreMet b layout (cbs_of (take k submits))) next met in (
+        fewer_submits submits n s at layout cut,
+        ap (λ k. layouts_by b layout (cbs_of (take k submits)) image) next
+            ∙ last_submit submits n s at layout cut image known
+            (subst (λ l. (layout : ℕ → ℕ) → AreMet b layout l → layouts_by b layout l image ≡ unwrap_or known (layout image)) are leaves),
+      )
 
   -- the buffers before the place in its own submit decide
   module _ (submits : List Submit) (submit at : ℕ) (layout : ℕ → ℕ) (met : AreMet b layout (executed_before submits submit at)) where

@@ -17,6 +17,12 @@ AreMet buffer layout cbs = meets layout (flat_map (asked_in buffer) cbs) ≡ tru
 abbrev pub layouts_at : (ℕ → Buffer) → (ℕ → ℕ) → Place → ℕ → ℕ
 layouts_at buffer layout place = layouts_by buffer layout (executed_before place.submits.now place.submit place.at)
 
+-- the place is one of the call, and all command buffers before it meet their layouts
+pub record IsReached (buffer : ℕ → Buffer) (layout : ℕ → ℕ) (place : Place) : Type 0 where
+  pub submit : place.submit < length place.submits.now
+  pub at : place.at ≤ length (cbs_at place.submits.now place.submit)
+  pub met : AreMet buffer layout (executed_before place.submits.now place.submit place.at)
+
 -- the command buffer at a place of a call meets its layouts, after all that the call executes before it
 abbrev pub meets_at : (ℕ → Buffer) → (ℕ → ℕ) → List Submit → (submit at : ℕ) → Bool
 meets_at buffer layout submits submit at =

@@ -22,4 +22,4 @@ left_after uses layout x = unwrap_or (use_of uses x).left (layout x)
 
 -- the layouts where those of these images were set
 abbrev pub left_by : FinMap nat_cmp Use → (ℕ → ℕ) → List ℕ → ℕ → ℕ
-left_by uses layout ids x = if is_listed x ids then unwrap_or (use_of uses x).left (layout x) else layout x
+left_by uses layout ids x = if is_listed x ids then left_after uses layout x else layout x

@@ -40,6 +40,9 @@ impl Laid {
     pub(crate) fn leave(&mut self, uses: &Uses)
         ensures { (layout : ℕ → ℕ) → (now : ℕ → ℕ) → IsLaid self.old layout now → IsLaid self.new layout (left_after uses.now.table.map now) }
     {
+        if !self.is_whole {
+            return;
+        }
         let ids = uses.ids();
         if self.table.reserve(ids.len()).is_err() {
             self.is_whole = false;

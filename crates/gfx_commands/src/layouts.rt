@@ -8,7 +8,7 @@ ghost use Rattle.gfx_objects.specs.Objects.{answers};
 ghost use Rattle.gfx_commands.specs.Laid.{IsLaid};
 ghost use Rattle.gfx_commands.specs.Uses.{use_of, suits};
 ghost use Rattle.gfx_commands.specs.Recordings.{buffers};
-ghost use Rattle.gfx_commands.specs.Differing.{AreMet, IsFirstDiffering, layouts_at, meets_at, SetsLive};
+ghost use Rattle.gfx_commands.specs.Differing.{AreMet, IsFirstDiffering, IsReached, layouts_at, meets_at, SetsLive};
 
 use crate::laid::Laid;
 use crate::recordings::Recordings;
@@ -26,7 +26,8 @@ pub(crate) struct Place<'s> {
 
 impl Recordings {
     /// The first place of a call, as a submit and a place among its command buffers, at which a command buffer does not
-    /// meet its layouts after all that the call executes before it.
+    /// meet its layouts after all that the call executes before it. Where memory for a table is found it is found sooner, and
+    /// the answer is the same.
     pub fn differs_at(&self, submits: &Submits, objects: &Objects) -> Option<(u32, u32)>
         requires all { length submits.now ≤ max_submits }
         requires each { (submit : ℕ) → length (cbs_at submits.now submit) ≤ max_submit_buffers }
@@ -77,9 +78,7 @@ impl Recordings {
     // Whether the buffer at a place of a call meets a layout other than the one that it asks for. Where it meets each, the layouts
     // that it leaves are laid.
     fn layout_differs(&self, place: Place<'_>, cb: u64, objects: &Objects, laid: &mut Laid) -> bool
-        requires submit { place.submit < length place.submits.now }
-        requires at { place.at ≤ length (cbs_at place.submits.now place.submit) }
-        requires met { AreMet (buffers self.now) (answers objects.now).layout (executed_before place.submits.now place.submit place.at) }
+        requires reached { IsReached (buffers self.now) (answers objects.now).layout place }
         requires laid { IsLaid laid.old (answers objects.now).layout (layouts_at (buffers self.now) (answers objects.now).layout place) }
         ensures differs { result ≡ not (meets (layouts_at (buffers self.now) (answers objects.now).layout place.entry) (asked_in (buffers self.now) cb)) }
         ensures laid { result ≡ false → IsLaid laid.new (answers objects.now).layout (layouts_after (layouts_at (buffers self.now) (answers objects.now).layout place.entry) (asked_in (buffers self.now) cb)) }
@@ -96,9 +95,7 @@ impl Recordings {
 
     // Whether an image has another layout than the uses want, before the place of the call.
     fn image_differs(&self, uses: &Uses, place: Place<'_>, objects: &Objects, laid: &Laid) -> bool
-        requires submit { place.submit < length place.submits.now }
-        requires at { place.at ≤ length (cbs_at place.submits.now place.submit) }
-        requires met { AreMet (buffers self.now) (answers objects.now).layout (executed_before place.submits.now place.submit place.at) }
+        requires reached { IsReached (buffers self.now) (answers objects.now).layout place }
         requires laid { IsLaid laid.now (answers objects.now).layout (layouts_at (buffers self.now) (answers objects.now).layout place) }
         ensures differs { result ≡ true → (x : ℕ) × (suits (use_of uses.now.table.map x).wanted (layouts_at (buffers self.now) (answers objects.now).layout place.entry x) ≡ false) }
         ensures suits { result ≡ false → (x : ℕ) → suits (use_of uses.now.table.map x).wanted (layouts_at (buffers self.now) (answers objects.now).layout place.entry x) ≡ true }
@@ -120,9 +117,7 @@ impl Recordings {
         laid: &Laid,
         image: u64,
     ) -> bool
-        requires submit { place.submit < length place.submits.now }
-        requires at { place.at ≤ length (cbs_at place.submits.now place.submit) }
-        requires met { AreMet (buffers self.now) (answers objects.now).layout (executed_before place.submits.now place.submit place.at) }
+        requires reached { IsReached (buffers self.now) (answers objects.now).layout place }
         requires laid { IsLaid laid.now (answers objects.now).layout (layouts_at (buffers self.now) (answers objects.now).layout place) }
         ensures { result ≡ not (suits (use_of uses.now.table.map image).wanted (layouts_at (buffers self.now) (answers objects.now).layout place.entry image)) }
     {
@@ -134,9 +129,7 @@ impl Recordings {
 
     // The layout of an image before the place of the call, where all before the place meet theirs.
     fn layout_before(&self, place: Place<'_>, objects: &Objects, laid: &Laid, image: u64) -> u32
-        requires submit { place.submit < length place.submits.now }
-        requires at { place.at ≤ length (cbs_at place.submits.now place.submit) }
-        requires met { AreMet (buffers self.now) (answers objects.now).layout (executed_before place.submits.now place.submit place.at) }
+        requires reached { IsReached (buffers self.now) (answers objects.now).layout place }
         requires laid { IsLaid laid.now (answers objects.now).layout (layouts_at (buffers self.now) (answers objects.now).layout place) }
         ensures { result ≡ layouts_at (buffers self.now) (answers objects.now).layout place.entry image }
     {
@@ -149,9 +142,7 @@ impl Recordings {
 
     // The same, found without memory: the newest buffer before the place that asks for the image decides.
     fn layout_sought(&self, place: Place<'_>, objects: &Objects, image: u64) -> u32
-        requires submit { place.submit < length place.submits.now }
-        requires at { place.at ≤ length (cbs_at place.submits.now place.submit) }
-        requires met { AreMet (buffers self.now) (answers objects.now).layout (executed_before place.submits.now place.submit place.at) }
+        requires reached { IsReached (buffers self.now) (answers objects.now).layout place }
         ensures { result ≡ layouts_at (buffers self.now) (answers objects.now).layout place.entry image }
     {
         let Place {

@@ -46,7 +46,8 @@ impl Tracker {
         }
     }
 
-    /// The fault of the first check that the effect breaks, where it breaks one. Takes no memory.
+    /// The fault of the first check that the effect breaks, where it breaks one. It never wants for memory: of a submit it takes some
+    /// where there is some, and is slower where there is none.
     pub fn fault_of(&self, effect: &Effect<'_>) -> Option<Fault>
         ensures { result ≡ first_broken (answers self.now) (checks_of (event_of effect.now)) }
     {
