@@ -3,8 +3,9 @@
 
     all.py [PROGRAM]
 
-A machine is idle when as many `sha256sum` at once as there are processors do at least 0.95 times as many times the work of one. Before
-each script it waits until that is so, by two looks a minute, 20 at most in the whole run, and after each it says whether it still is.
+A machine is idle when as many `sha256sum` at once as there are processors do at least 0.95 times as many times the work of one. What uses
+all processors comes first and waits until that is so, by two looks a minute, 20 at most in the whole run, since machines that others share
+are seldom idle for long. After each script it says whether the machine is.
 The program is built by the script `gfxcap` at the top of the repository, or is the one that the word names.
 """
 import os
@@ -14,16 +15,15 @@ import time
 
 from measure import TOP, at_once, least, program_of, run
 
+ON_ALL = ["fan/run.py", "capture/lines.py"]
 SCRIPTS = [
     "info/run.py",
     "replay/run.py replay",
     "replay/run.py ends",
     "replay/run.py trim",
     "listing/run.py",
-    "fan/run.py",
     "lean/run.py",
     "gather/run.py",
-    "capture/lines.py",
     "hostile/run.py",
     "hostile/commands.py",
 ]
@@ -46,8 +46,8 @@ def main():
     with open(ZEROS, "wb") as out:
         out.truncate(BYTES)
     idle = is_idle(processors)
-    for script in [f"{script} {program}" for script in SCRIPTS] + [f"crates.py {crate}" for crate in CRATES]:
-        while not idle and left > 0:
+    for script in [f"{script} {program}" for script in ON_ALL + SCRIPTS] + [f"crates.py {crate}" for crate in CRATES]:
+        while not idle and left > 0 and script.split()[0] in ON_ALL:
             left -= 1
             time.sleep(PAUSE)
             idle = is_idle(processors)
