@@ -3,9 +3,10 @@
 
     all.py [PROGRAM]
 
-A machine is idle when as many `sha256sum` at once as there are processors do at least 0.95 times as many times the work of one. What uses
-all processors comes first and waits until that is so, by two looks a minute, 20 at most in the whole run, since machines that others share
-are seldom idle for long. After each script it says whether the machine is.
+A machine is idle when as many `sha256sum` at once as there are processors do at least 0.95 times as many times the work of one. `digests`
+and recordings by threads come first, and wait until that is so, by two looks a minute, 20 at most in the whole run: they alone use all
+processors, but for two of the programs of single crates, and shared machines are seldom idle for long. After each script it says whether the
+machine is.
 The program is built by the script `gfxcap` at the top of the repository, or is the one that the word names.
 """
 import os
