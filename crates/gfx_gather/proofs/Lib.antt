@@ -1,3 +1,4 @@
 pub mod Ahead
 pub mod Short
+pub mod Staying
 pub mod Playing

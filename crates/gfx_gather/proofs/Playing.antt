@@ -7,12 +7,13 @@ use Rattle.gfx_script_model.specs.Ids.{uses_of, defines_of, map_ids}
 use Rattle.gfx_script_model.specs.Scripts.{Line, Part, has_thread}
 use Rattle.gfx_run_law.specs.Pieces.{AreApart}
 use Rattle.gfx_script_law.specs.Playable.{HasBlock, HasBlocks, AreNumbered, IsPlayable, names_of, numbers_from, phase_lines, script_lines}
-use Rattle.gfx_script_law.proofs.Numbers.{names-append, numbered-parts}
+use Rattle.gfx_script_law.proofs.Numbers.{numbered-parts}
 use Rattle.gfx_shadow.specs.Writes.{Write, fills}
 use Rattle.gfx_shadow.specs.Gathered.{held_of, ends_holding, event_of_write, gathered_after, gathered, gathered_part, gathered_phases, last_number}
 use Rattle.gfx_gather.specs.Gathering.{fill_line, fills_at}
 use Rattle.gfx_gather.specs.Laws.{ShownIsPlayable}
 use Rattle.gfx_gather.proofs.Ahead.{is_held, after_held, after_other}
+use Rattle.gfx_gather.proofs.Staying.{held-gives, lines-give, parts-give, phases-give}
 use Rattle.gfx_gather.proofs.Short.{IsKnown, IsShort, all-both, fills-short}
 
 abbrev Below : ℕ → ℕ → Type 0
@@ -68,10 +69,6 @@ fills-stand m next number (w ∷ fs) ls short h =
       blocks = (fill-blocks m next number w short.0, rest.blocks);
     }
 
-fills-names : (number : ℕ) (fs : List Write) (ls : List Line) → names_of (fills_at number fs ++ ls) ≡ names_of ls
-fills-names number [] ls = refl
-fills-names number (w ∷ fs) ls = ap (λ d. d ++ names_of (fills_at number fs ++ ls)) (fill-defines w) ∙ fills-names number fs ls
-
 -- ---- a line
 
 -- a held write is to a memory that the line uses
@@ -84,32 +81,11 @@ held-known m next l w e uses blocks =
       bytes = block-bytes m w (subst (λ z. HasBlock m (map_ids (λ k. 0) z)) is.1 (blocks (λ k. 0) (λ k. omega arith)));
     }
 
-held-defines : (l : Line) (w : Write) → held_of l.event ≡ Some w → defines_of 2 l.event ≡ []
-held-defines l w e = ap (defines_of 2) (is_held l.event w e).1 ∙ fill-defines w
-
 known-later : (next more : ℕ) (held : List Write) → AllByRecursion (IsKnown (Below next)) held → AllByRecursion (IsKnown (Below (next + more))) held
 known-later next more [] h = tt
 known-later next more (w ∷ ws) h = (record { memory = let a = h.0.memory in omega arith; may = h.0.may; bytes = h.0.bytes }, known-later next more ws h.1)
 
 -- ---- the lines of a part
-
-names-stay : (last : ℕ) (held : List Write) (ls : List Line) → names_of (gathered_after last held ls) ≡ names_of ls
-unfolding gathered_after
-names-stay last held [] = ap names_of (sym (append-nil (fills_at last (fills held)))) ∙ fills-names last (fills held) []
-names-stay last held (l ∷ ls) =
-    by (held_of l.event) refl (ends_holding l.event) refl (λ w. names-stay last (held ++ w ∷ []) ls) (names-stay last [] ls) (names-stay last held ls)
-  where
-    by : (o : Option Write) → held_of l.event ≡ o → (b : Bool) → ends_holding l.event ≡ b
-        → ((w : Write) → names_of (gathered_after last (held ++ w ∷ []) ls) ≡ names_of ls)
-        → names_of (gathered_after last [] ls) ≡ names_of ls
-        → names_of (gathered_after last held ls) ≡ names_of ls
-        → names_of (gathered_after last held (l ∷ ls)) ≡ names_of (l ∷ ls)
-    by (Some w) e b f more anew same =
-        ap names_of (after_held last held l ls w e) ∙ (more w ∙ ap (λ d. d ++ names_of ls) (sym (held-defines l w e)))
-    by None e true f more anew same =
-        ap names_of (after_other last held l ls true e f)
-        ∙ (fills-names l.number (fills held) (l ∷ gathered_after last [] ls) ∙ ap (λ k. defines_of 2 l.event ++ k) anew)
-    by None e false f more anew same = ap names_of (after_other last held l ls false e f) ∙ ap (λ k. defines_of 2 l.event ++ k) same
 
 stays : (m next last : ℕ) (held : List Write) (ls : List Line) → AllByRecursion (IsKnown (Below next)) held → Stands m next ls → Stands m next (gathered_after last held ls)
 unfolding gathered_after
@@ -130,7 +106,7 @@ stays m next last held (l ∷ ls) known h =
         → Stands m (next + length (defines_of 2 l.event)) (gathered_after last held ls)
         → Stands m next (gathered_after last held (l ∷ ls))
     by (Some w) e b f more anew same =
-        subst (Stands m next) (sym (after_held last held l ls w e)) (more w (held-known m next l w e h.numbered.0 h.blocks.0) (held-defines l w e))
+        subst (Stands m next) (sym (after_held last held l ls w e)) (more w (held-known m next l w e h.numbered.0 h.blocks.0) (held-gives (defines_of 2) fill-defines l w e))
     by None e true f more anew same =
         subst (Stands m next) (sym (after_other last held l ls true e f))
         (fills-stand m next l.number (fills held) (l ∷ gathered_after last [] ls) (fills-short (Below next) held known) (onto (gathered_after last [] ls) anew))
@@ -162,30 +138,18 @@ stands-both m next a b c same s t = record {
   blocks = all-both (HasBlocks m) c b s.blocks t.blocks;
 }
 
-part-names : (parts : List Part) → names_of (phase_lines (map gathered_part parts)) ≡ names_of (phase_lines parts)
-part-names [] = refl
-part-names (p ∷ ps) =
-    names-append (gathered p.lines) (phase_lines (map gathered_part ps))
-    ∙ ((λ i. names-stay (last_number p.lines) [] p.lines i ++ part-names ps i) ∙ sym (names-append p.lines (phase_lines ps)))
-
-phase-names : (phases : List (List Part)) → names_of (script_lines (gathered_phases phases)) ≡ names_of (script_lines phases)
-phase-names [] = refl
-phase-names (p ∷ ps) =
-    names-append (phase_lines (map gathered_part p)) (script_lines (gathered_phases ps))
-    ∙ ((λ i. part-names p i ++ phase-names ps i) ∙ sym (names-append (phase_lines p) (script_lines ps)))
-
 parts-stand : (m next : ℕ) (parts : List Part) → Stands m next (phase_lines parts) → Stands m next (phase_lines (map gathered_part parts))
 parts-stand m next [] h = h
 parts-stand m next (p ∷ ps) h =
     let r = stands-parts m next p.lines (phase_lines ps) h in
-    stands-both m next p.lines (phase_lines (map gathered_part ps)) (gathered p.lines) (names-stay (last_number p.lines) [] p.lines)
+    stands-both m next p.lines (phase_lines (map gathered_part ps)) (gathered p.lines) (lines-give (defines_of 2) fill-defines (last_number p.lines) [] p.lines)
     (stays m next (last_number p.lines) [] p.lines tt r.0) (parts-stand m (next + length (names_of p.lines)) ps r.1)
 
 phases-stand : (m next : ℕ) (phases : List (List Part)) → Stands m next (script_lines phases) → Stands m next (script_lines (gathered_phases phases))
 phases-stand m next [] h = h
 phases-stand m next (p ∷ ps) h =
     let r = stands-parts m next (phase_lines p) (script_lines ps) h in
-    stands-both m next (phase_lines p) (script_lines (gathered_phases ps)) (phase_lines (map gathered_part p)) (part-names p)
+    stands-both m next (phase_lines p) (script_lines (gathered_phases ps)) (phase_lines (map gathered_part p)) (parts-give (defines_of 2) fill-defines p)
     (parts-stand m next p r.0) (phases-stand m (next + length (names_of (phase_lines p))) ps r.1)
 
 -- ---- threads
@@ -221,7 +185,7 @@ gathered_is_playable m phases h =
       apart = all-apart phases h.apart;
       threads = all-low phases h.threads;
       numbered = s.numbered;
-      few = subst (λ d. length d < 2 ^ 32) (sym (phase-names phases)) h.few;
+      few = subst (λ d. length d < 2 ^ 32) (sym (phases-give (defines_of 2) fill-defines phases)) h.few;
       blocks = s.blocks;
     }
 

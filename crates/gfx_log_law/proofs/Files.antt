@@ -65,7 +65,7 @@ module _ (m : ℕ) (log : List Entry) (version : (m ≡ 1) ⊎ (m ≡ 2)) (small
   are : AreBytes (log_file m log)
   are = are_bytes (log_file m log) (both_bytes (header m) (log_bytes m log) (header_bytes m) (all_bytes m log can))
 
-  judged : is_valid (history log) ≡ true → judge [] (blocks_of (log_file m log)).items (blocks_of (log_file m log)).end ≡ record { history = history log; end = clean }
+  pub judged : is_valid (history log) ≡ true → judge [] (blocks_of (log_file m log)).items (blocks_of (log_file m log)).end ≡ record { history = history log; end = clean }
   judged valid =
       let ws = placed first (parts m log) in
       let said : events_onto ws [] ≡ history log = said_onto m first log [] in

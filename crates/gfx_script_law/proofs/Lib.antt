@@ -5,3 +5,4 @@ pub mod Orders
 pub mod Sizes
 pub mod Statements
 pub mod Playing
+pub mod Counting
