@@ -1,6 +1,7 @@
 -- What the end of a recording allows, by its text.
-use Rattle.std.proofs.Common.{◌≡◌, ◌⊎◌, inl, inr, ◌≤◌, ℕ, Bool, List, [], ◌++◌, length, Option, Some, None, Err, refl, sym, ap, subst, ◌∙◌, arith, length-append}
-use Rattle.std.proofs.lemmas.List.{append-nil}
+use Rattle.std.proofs.Common.{◌≡◌, ◌⊎◌, inl, inr, ◌<◌, ◌≤◌, ◌+◌, ℕ, Bool, List, [], ◌++◌, length, take, Option, Some, None, Err, refl, sym, ap, subst, ◌∙◌, arith}
+use Rattle.std.proofs.lemmas.Bool.{cases_lt}
+use Rattle.std.proofs.lemmas.List.{append-nil, take_all, take-append-le}
 use Rattle.gfx_io.specs.Told.{IfTold}
 use Rattle.gfx_io.proofs.Appending.{whole_part}
 use Rattle.gfx_gather.specs.Shown.{shown_phases}
@@ -12,6 +13,7 @@ use Rattle.gfx_script.specs.Kinds.{kind_of}
 use Rattle.gfx_script.specs.declared.kind.ScriptKind.{ScriptKind}
 use Rattle.gfx_script.specs.declared.kind.ScriptKind.TheVariants.{BadByte, LineTooLong, TooMany, BadLine, Structure, NameUnknown, NameTaken}
 use Rattle.gfx_recording.specs.Records.{IsBadScript, Leaves}
+use Rattle.gfx_recording.proofs.Length.{parses_small}
 use Rattle.gfx_recording.specs.declared.fault.RecordingFault.{RecordingFault}
 use Rattle.gfx_recording.specs.declared.fault.RecordingFault.TheVariants.{BadScript, CallRefused, LogFull, NoSuchFrame, ReadFault, SinkFault, WantMemory}
 use Rattle.gfx_words.specs.declared.range.FrameRange.{FrameRange}
@@ -30,22 +32,25 @@ one_kind NameUnknown NameUnknown same = refl
 one_kind NameTaken NameTaken same = refl
 one_kind a b same = absurd cc
 
+-- what is read of a text, all of it or a byte more than a script may have, is known by the text
+taken : (text rest : List ℕ) (most : ℕ) → length text ≤ most → (length text < most → rest ≡ []) → take most (text ++ rest) ≡ text
+taken text rest most few ended = elim (cases_lt (length text) most) [
+  | inl short ↦ ap (λ r. take most (text ++ r)) (ended short) ∙ (ap (take most) (append-nil text) ∙ take_all most text few)
+  | inr long ↦ take-append-le most text rest long ∙ take_all most text few
+]
+
 -- such a text is not run
 pub not_run : (gathers : Bool) (P : ℕ → List (List Part) → List Entry → Type 0) (line : ℕ) (kind : ScriptKind) (bytes rest : List ℕ) → IsFault line kind bytes → IsRun gathers P bytes rest → ⊥
-not_run gathers P line kind bytes rest fault is = let e : parses is.minor is.phases ≡ fails line (kind_of kind) = fault.fails.1 (parses is.minor is.phases) is.parses in absurd cc
-
--- all of a text that is no longer than a script was read
-all_read : (text bytes rest : List ℕ) → length bytes ≤ max_script → bytes ≡ text ++ rest → (length text ≤ max_script → rest ≡ []) → text ≡ bytes
-all_read text bytes rest few parts ended =
-    let long = ap length parts ∙ length-append text rest in
-    let short : length text ≤ max_script = omega (arith, long, few) in
-    sym (parts ∙ ap (λ r. text ++ r) (ended short) ∙ append-nil text)
+not_run gathers P line kind bytes rest fault is =
+    let small = parses_small bytes is.minor is.phases is.parses in
+    let whole = take_all (max_script + 1) bytes (omega (arith, small)) in
+    let e : parses is.minor is.phases ≡ fails line (kind_of kind) = fault.1 (parses is.minor is.phases) (subst (λ t. Parses t (parses is.minor is.phases)) (sym whole) is.parses) in absurd cc
 
 -- its first line with a fault is one
 same_bad : (line other : ℕ) (kind wrong : ScriptKind) (bytes rest : List ℕ) → IsFault line kind bytes → IsBadScript other wrong bytes rest → BadScript other wrong ≡ BadScript line kind
 same_bad line other kind wrong bytes rest fault is =
-    let whole = all_read is.text bytes rest fault.few is.read.parts is.read.ended in
-    let same : fails other (kind_of wrong) ≡ fails line (kind_of kind) = fault.fails.1 (fails other (kind_of wrong)) (subst (λ t. Parses t (fails other (kind_of wrong))) whole is.fails.0) in
+    let whole = ap (take (max_script + 1)) is.read.parts ∙ taken is.text rest (max_script + 1) is.read.few (λ short. is.read.ended (omega (arith, short))) in
+    let same : fails other (kind_of wrong) ≡ fails line (kind_of kind) = fault.1 (fails other (kind_of wrong)) (subst (λ t. Parses t (fails other (kind_of wrong))) (sym whole) is.fails.0) in
     let lines : other ≡ line = cc same in
     let kinds : kind_of wrong ≡ kind_of kind = cc same in
     ap (λ n. BadScript n wrong) lines ∙ ap (BadScript line) (one_kind wrong kind kinds)
@@ -55,7 +60,7 @@ pub bad_ends : (r : Recording) (before after : Option (List ℕ)) (why : Recordi
 bad_ends r before after (BadScript other wrong) line kind bytes rest fault is reads writes = inr (same_bad line other kind wrong bytes rest fault is)
 bad_ends r before after (CallRefused number why at) line kind bytes rest fault is reads writes = absurd (not_run r.gathers _ line kind bytes rest fault is)
 bad_ends r before after (LogFull long wanted) line kind bytes rest fault is reads writes = absurd (not_run r.gathers _ line kind bytes rest fault is)
-bad_ends r before after (NoSuchFrame first last) line kind bytes rest fault is reads writes = absurd (not_run r.gathers _ line kind bytes rest fault is)
+bad_ends r before after (NoSuchFrame first last) line kind bytes rest fault is reads writes = absurd (not_run r.gathers _ line kind bytes rest fault is.0)
 bad_ends r before after ReadFault line kind bytes rest fault is reads writes = absurd (reads refl)
 bad_ends r before after SinkFault line kind bytes rest fault is reads writes = absurd (writes refl)
 bad_ends r before after WantMemory line kind bytes rest fault is reads writes = inl refl
@@ -78,7 +83,7 @@ front_of : (r : Recording) (before after : Option (List ℕ)) (why : RecordingFa
 front_of r before after (BadScript number kind) bytes rest is none = inl none
 front_of r before after (CallRefused number why at) bytes rest is none = inr (run_weaker r.gathers _ _ bytes rest (λ m phases log p. inr (p.0.halted, whole_part before after _ p.1)) is)
 front_of r before after (LogFull long wanted) bytes rest is none = inr (run_weaker r.gathers _ _ bytes rest (λ m phases log p. inr (p.0.halted, whole_part before after _ p.1)) is)
-front_of r before after (NoSuchFrame first last) bytes rest is none = inr (run_weaker r.gathers _ _ bytes rest (lack_front r.frames before after first last) is)
+front_of r before after (NoSuchFrame first last) bytes rest is none = inr (run_weaker r.gathers _ _ bytes rest (lack_front r.frames before after first last) is.0)
 front_of r before after ReadFault bytes rest is none = inl none
 front_of r before after SinkFault bytes rest is none = inr is
 front_of r before after WantMemory bytes rest is none = is

@@ -1,15 +1,13 @@
 -- What a status tells of the fault behind it.
-use Rattle.std.proofs.Common.{◌≡◌, ◌≢◌, ◌⊎◌, inl, inr, ℕ, List, Option, Some, None, Err, refl, sym, subst, ◌∙◌}
+use Rattle.std.proofs.Common.{◌≡◌, ◌≢◌, ◌⊎◌, inl, inr, ℕ, List, Err, refl, sym, subst, ◌∙◌}
 use Rattle.gfx_types.specs.declared.names.Fault.{Fault}
 use Rattle.gfx_script.specs.declared.kind.ScriptKind.{ScriptKind}
 use Rattle.gfx_recording.specs.declared.fault.RecordingFault.{RecordingFault}
 use Rattle.gfx_recording.specs.declared.fault.RecordingFault.TheVariants.{BadScript, CallRefused, LogFull, NoSuchFrame, ReadFault, SinkFault, WantMemory}
-use Rattle.gfx_words.specs.declared.range.FrameRange.{FrameRange}
 use Rattle.gfx_cli.specs.declared.status.Status.{Status}
 use Rattle.gfx_cli.specs.declared.status.Status.TheVariants as status
 use Rattle.gfx_recording.specs.Records.{IsUnstopped}
 use Rattle.gfx_cli.specs.Captures.{IsUnstoppedAt, line_of, status_of}
-use Rattle.gfx_cli.specs.Commands.{asked_by}
 use Rattle.gfx_cli.specs.CaptureRun.{IsOfCaptures}
 use Rattle.gfx_cli.proofs.Telling.{IsToldBy, status_tells, told_or_wanting}
 
@@ -76,20 +74,19 @@ fault_exactly Line why wanted result same failed is silent none (inr same_as) =
     told_or_wanting result (status_of wanted) (Line (line_of wanted)) same failed (subst (λ f. IsToldBy result (status_of f) (Line (line_of f)) same failed) same_as is) none
 
 -- what does not stop a recording of a safe script has such a status
-unstopped : (frames : Option FrameRange) (why : RecordingFault) → IsUnstopped (asked_by frames) (Err why) → IsUnstoppedAt frames (status_of why)
-unstopped frames WantMemory is = tt
-unstopped None (NoSuchFrame first last) is = absurd is
-unstopped (Some r) (NoSuchFrame first last) is = tt
-unstopped frames (BadScript line kind) is = absurd is
-unstopped frames (CallRefused line fault at) is = absurd is
-unstopped frames (LogFull long wanted) is = absurd is
-unstopped frames ReadFault is = absurd is
-unstopped frames SinkFault is = absurd is
+unstopped : (why : RecordingFault) → IsUnstopped (Err why) → IsUnstoppedAt (status_of why)
+unstopped WantMemory is = tt
+unstopped (NoSuchFrame first last) is = absurd is
+unstopped (BadScript line kind) is = absurd is
+unstopped (CallRefused line fault at) is = absurd is
+unstopped (LogFull long wanted) is = absurd is
+unstopped ReadFault is = absurd is
+unstopped SinkFault is = absurd is
 
-pub unstopped_at : (frames : Option FrameRange) (why : RecordingFault) (result : Status) (line same failed : Type 0) → IsToldBy result (status_of why) line same failed → ¬ failed
-    → IsUnstopped (asked_by frames) (Err why) → IsUnstoppedAt frames result
-unstopped_at frames why result line same failed is none so =
+pub unstopped_at : (why : RecordingFault) (result : Status) (line same failed : Type 0) → IsToldBy result (status_of why) line same failed → ¬ failed
+    → IsUnstopped (Err why) → IsUnstoppedAt result
+unstopped_at why result line same failed is none so =
     elim (told_or_wanting result (status_of why) line same failed is none) [
-      | inl wanting ↦ subst (IsUnstoppedAt frames) (sym wanting) tt
-      | inr told ↦ subst (IsUnstoppedAt frames) (sym told.0) (unstopped frames why so)
+      | inl wanting ↦ subst IsUnstoppedAt (sym wanting) tt
+      | inr told ↦ subst IsUnstoppedAt (sym told.0) (unstopped why so)
     ]

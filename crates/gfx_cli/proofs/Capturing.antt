@@ -10,7 +10,8 @@ use Rattle.gfx_words.specs.declared.recording.Recording.{Recording}
 use Rattle.gfx_cli.specs.declared.status.Status.{Status}
 use Rattle.gfx_cli.specs.declared.status.Status.TheVariants as status
 use Rattle.gfx_cli.specs.CapturePromise.{KeepsCapture, KeepsRecording}
-use Rattle.gfx_cli.specs.Captures.{Ends, IsFault, IsUnstoppedAt, line_of, status_of}
+use Rattle.gfx_cli.specs.Captures.{Ends, IsFault, line_of, status_of}
+use Rattle.gfx_cli.specs.Commands.{asked_by}
 use Rattle.gfx_cli.specs.CaptureRun.{Captures, usage_noted, fault_noted}
 use Rattle.gfx_cli.specs.Seen.{Failed, Seen}
 use Rattle.gfx_cli.specs.Text.{usage_line}
@@ -93,8 +94,7 @@ unrecorded words r source sink notes fault result ask kept same_bytes told =
       done = λ is. absurd (of_status status.Done is (λ e. absurd cc) (λ e. absurd cc));
       complete = λ other asked known safe reads writes unnoted.
           let same = ask.only other asked in
-          subst (λ q. IsUnstoppedAt q.frames result) (sym same)
-          (unstopped_at r.frames fault result _ _ _ told.ends unnoted (kept.complete known (subst (λ q. IfSome source.bytes_before (IsSafeText q.gathers)) same safe) reads writes));
+          unstopped_at fault result _ _ _ told.ends unnoted (kept.complete known (subst (λ q. IfSome source.bytes_before (IsSafeText q.gathers (asked_by q.frames))) same safe) reads writes);
       bad_script = λ is. let (line, kind, both) = tells status.BadScript is (λ e. absurd cc) (λ e. absurd cc) in (line, kind, both.0, both.1);
       bad_exactly = λ other line kind asked known bad reads writes unnoted.
           let (all, rest, wrong, ends) = at_told source.bytes_before source.bytes_now (IsFault line kind) (Ends r sink.bytes_before sink.bytes_now (Err fault)) known bad kept.ends in

@@ -151,7 +151,7 @@ pub ends_of : (r : Recording) (before after : Option (List ℕ)) (end : Result U
     → Records r.gathers (asked_by r.frames) before after end bytes rest → Ends r before after end bytes rest
 ends_of r before after (Ok done) bytes rest is = run_of r.gathers _ _ before after (Ok tt) bytes rest is (whole_by r.frames before after is.minor (shown_phases r.gathers is.phases) is.outcome is.ran is.means is.wrote)
 ends_of r before after (Err (NoSuchFrame first last)) bytes rest is =
-    run_of r.gathers _ _ before after (Err (NoSuchFrame first last)) bytes rest is (lack_by r.frames before after first last is.minor (shown_phases r.gathers is.phases) is.outcome is.ran is.means is.wrote)
+    (run_of r.gathers _ _ before after (Err (NoSuchFrame first last)) bytes rest is (lack_by r.frames before after first last is.minor (shown_phases r.gathers is.phases) is.outcome is.ran is.means is.wrote), (is.minor, is.phases, is.parses, is.frames.0, is.frames.1, is.frames.2))
 ends_of r before after (Err (CallRefused line fault at)) bytes rest is =
     run_of r.gathers _ _ before after (Err (CallRefused line fault at)) bytes rest is (call_by r.frames before after line fault at is.minor (shown_phases r.gathers is.phases) is.outcome is.ran is.means is.wrote)
 ends_of r before after (Err (LogFull long wanted)) bytes rest is =

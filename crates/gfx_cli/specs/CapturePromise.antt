@@ -22,8 +22,8 @@ use Rattle.gfx_cli.specs.Words.{IsAsked, IsUnasked}
 pub record KeepsRecording {S K : Type 0} (r : Recording) (source : Seen S) (sink : Seen K) (end : Result Unit RecordingFault) : Type 0 where
   pub ends : IfTold source.bytes_before source.bytes_now (Ends r sink.bytes_before sink.bytes_now end)
   pub leaves : Leaves end (sink.now ≡ sink.before)
-  pub complete : IsTold source.bytes_before → IfSome source.bytes_before (IsSafeText r.gathers) → ¬ Failed source → ¬ Failed sink
-      → IsUnstopped (asked_by r.frames) end
+  pub complete : IsTold source.bytes_before → IfSome source.bytes_before (IsSafeText r.gathers (asked_by r.frames)) → ¬ Failed source → ¬ Failed sink
+      → IsUnstopped end
   pub read_fault : end ≡ Err why.ReadFault → Failed source
   pub sink_fault : end ≡ Err why.SinkFault → Failed sink
   pub later : (source.faults_before ≤ source.faults_now) × (sink.faults_before ≤ sink.faults_now)
@@ -36,9 +36,9 @@ pub record KeepsCapture {S K N : Type 0} (words : List (List ℕ)) (source : See
   pub refused : IsUnasked words → ((result ≡ status.Usage) ⊎ (result ≡ status.WriteFault)) × (source.now ≡ source.before) × (sink.now ≡ sink.before)
   -- every call was accepted: the log matches the script and is a valid history, and it was written, or just the frames that were asked for
   pub done : result ≡ status.Done → Captures words source.bytes_before source.bytes_now sink.bytes_before sink.bytes_now (Ok tt) × (notes.now ≡ notes.before)
-  -- of a script no call of which can be refused, it comes to this end, or a frame that is asked for isn't in its log
-  pub complete : (recording : Recording) → IsAsked words recording → IsTold source.bytes_before → IfSome source.bytes_before (IsSafeText recording.gathers)
-      → ¬ Failed source → ¬ Failed sink → ¬ Failed notes → IsUnstoppedAt recording.frames result
+  -- of a script no call of which can be refused, and which has the presents that are asked for, it comes to this end
+  pub complete : (recording : Recording) → IsAsked words recording → IsTold source.bytes_before → IfSome source.bytes_before (IsSafeText recording.gathers (asked_by recording.frames))
+      → ¬ Failed source → ¬ Failed sink → ¬ Failed notes → IsUnstoppedAt result
   -- a text is bad exactly where it is no script; its first line with a fault is noted
   pub bad_script : result ≡ status.BadScript → (line : ℕ) × (kind : ScriptKind)
       × Captures words source.bytes_before source.bytes_now sink.bytes_before sink.bytes_now (Err (why.BadScript line kind))
@@ -56,7 +56,7 @@ pub record KeepsCapture {S K N : Type 0} (words : List (List ℕ)) (source : See
   pub log_full : result ≡ status.LogFull → (length : ℕ) × (wanted : ℕ)
       × Captures words source.bytes_before source.bytes_now sink.bytes_before sink.bytes_now (Err (why.LogFull length wanted))
       × Appends notes.bytes_before notes.bytes_now (log_full_line length wanted)
-  -- a frame isn't there only where every call was accepted and the log's frames are others; they are noted
+  -- a frame isn't there only where every call was accepted, and the range begins at 0 or ends behind the script's last present; its frames are noted
   pub no_such_frame : result ≡ status.NoSuchFrame → (first : ℕ) × (last : ℕ)
       × Captures words source.bytes_before source.bytes_now sink.bytes_before sink.bytes_now (Err (why.NoSuchFrame first last))
       × Appends notes.bytes_before notes.bytes_now (no_such_frame_line first last)

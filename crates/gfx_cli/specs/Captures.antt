@@ -1,5 +1,5 @@
 -- How a recording ends, over the bytes that the source had left and has left.
-use Rattle.std.specs.Prelude.{◌≡◌, ◌⊎◌, ◌≤◌, ℕ, Bool, true, List, [], length, Option, Some, None, Result, Ok, Err, ⊤}
+use Rattle.std.specs.Prelude.{◌≡◌, ◌⊎◌, ◌+◌, ℕ, Bool, true, List, [], take, Option, Some, None, Result, Ok, Err, ⊤}
 use Rattle.std.specs.Io.KnownBytes.{Appends}
 use Rattle.gfx_io.specs.Pieces.{AppendsPart}
 use Rattle.gfx_model.specs.History.{is_valid}
@@ -9,11 +9,12 @@ use Rattle.gfx_script_model.specs.Runs.{Entry, Matches, history}
 use Rattle.gfx_script.specs.Kinds.{kind_of}
 use Rattle.gfx_script.specs.State.{ParsesAs}
 use Rattle.gfx_script.specs.declared.kind.ScriptKind.{ScriptKind}
+use Rattle.gfx_script_law.specs.Presents.{presents}
 use Rattle.gfx_gather.specs.Shown.{shown_phases}
 use Rattle.gfx_log_law.specs.Logs.{log_file}
 use Rattle.gfx_run_law.specs.Halted.{IsHalted}
 use Rattle.gfx_recorder.specs.Outcomes.{IsRefusedAt, IsFullAt}
-use Rattle.gfx_recording.specs.Records.{IsBadScript}
+use Rattle.gfx_recording.specs.Records.{AreNoFrames, IsBadScript}
 use Rattle.gfx_recording.specs.Writing.{MeansHistory}
 use Rattle.gfx_recording.specs.declared.fault.RecordingFault.{RecordingFault}
 use Rattle.gfx_recording.specs.declared.fault.RecordingFault.TheVariants.{BadScript, CallRefused, LogFull, NoSuchFrame, ReadFault, SinkFault, WantMemory}
@@ -24,6 +25,7 @@ use Rattle.gfx_words.specs.declared.range.FrameRange.{FrameRange}
 use Rattle.gfx_words.specs.declared.recording.Recording.{Recording}
 use Rattle.gfx_cli.specs.declared.status.Status.{Status}
 use Rattle.gfx_cli.specs.declared.status.Status.TheVariants as status
+use Rattle.gfx_cli.specs.Commands.{asked_by}
 use Rattle.gfx_cli.specs.Text.{bad_script_line, refused_line, log_full_line, no_such_frame_line, read_fault_line}
 
 -- the source was read to its end, its text is a script, and this is so of the script, with writes gathered where that is asked for, and of a log, which as a file ends cleanly and shows the frames of its history
@@ -51,6 +53,12 @@ abbrev pub Lacks : Option FrameRange → Option (List ℕ) → Option (List ℕ)
 Lacks None before after first last file = ⊥
 Lacks (Some r) before after first last file = IsWithout r.first r.last before after first last file []
 
+-- the text is a script whose presents are these frames, and the range is not among them
+abbrev pub LacksPresents : Option FrameRange → (first last : ℕ) → List ℕ → Type 0
+LacksPresents frames first last bytes =
+    (minor : ℕ) × (phases : List (List Part)) × Parses bytes (parses minor phases)
+    × AreNoFrames (asked_by frames) (presents phases) × (first ≡ 1) × (last ≡ presents phases)
+
 -- what is written of the file of a log
 abbrev pub written_of : Option FrameRange → List ℕ → List ℕ
 written_of None file = file
@@ -68,6 +76,7 @@ Ends r before after (Ok done) bytes rest =
     IsRun r.gathers (λ m phases log. IsWhole m phases log × Took r.frames before after (log_file m log)) bytes rest
 Ends r before after (Err (NoSuchFrame first last)) bytes rest =
     IsRun r.gathers (λ m phases log. IsWhole m phases log × Lacks r.frames before after first last (log_file m log)) bytes rest
+    × LacksPresents r.frames first last bytes
 Ends r before after (Err (CallRefused line fault at)) bytes rest =
     IsRun r.gathers (λ m phases log. IsRefusedAt m phases log line fault at × Appends before after (log_file m log)) bytes rest
 Ends r before after (Err (LogFull long wanted)) bytes rest =
@@ -77,17 +86,15 @@ Ends r before after (Err ReadFault) bytes rest = ⊤
 Ends r before after (Err SinkFault) bytes rest = IsRun r.gathers (TookFront r.frames before after) bytes rest
 Ends r before after (Err WantMemory) bytes rest = (after ≡ before) ⊎ IsRun r.gathers (TookFront r.frames before after) bytes rest
 
--- a text that is no longer than a script may be is none, and this is its first line with a fault
-pub record IsFault (line : ℕ) (kind : ScriptKind) (bytes : List ℕ) : Type 0 where
-  pub few : length bytes ≤ max_script
-  pub fails : ParsesAs bytes (fails line (kind_of kind))
+-- the text, of which no more is read than a byte above what a script may have, is none, and this is its first line with a fault
+abbrev pub IsFault : ℕ → ScriptKind → List ℕ → Type 0
+IsFault line kind bytes = ParsesAs (take (max_script + 1) bytes) (fails line (kind_of kind))
 
--- nothing but want of memory stopped the recording, or that a frame isn't there which is asked for, by the status
-abbrev pub IsUnstoppedAt : Option FrameRange → Status → Type 0
-IsUnstoppedAt frames status.Done = ⊤
-IsUnstoppedAt frames status.WantMemory = ⊤
-IsUnstoppedAt (Some r) status.NoSuchFrame = ⊤
-IsUnstoppedAt frames _ = ⊥
+-- nothing but want of memory stopped the recording, by the status
+abbrev pub IsUnstoppedAt : Status → Type 0
+IsUnstoppedAt status.Done = ⊤
+IsUnstoppedAt status.WantMemory = ⊤
+IsUnstoppedAt _ = ⊥
 
 -- the status with which the program ends
 abbrev pub status_of : RecordingFault → Status

@@ -1,3 +1,5 @@
 pub mod Length
+pub mod Numbered
+pub mod Missing
 pub mod Cutting
 pub mod Recorded

@@ -1,5 +1,5 @@
 -- What a recording answers, and what was written.
-use Rattle.std.specs.Prelude.{◌≡◌, ◌⊎◌, ◌≤◌, ℕ, Bool, List, [], ◌++◌, length, Option, Result, Ok, Err, ⊤}
+use Rattle.std.specs.Prelude.{◌≡◌, ◌⊎◌, ◌<◌, ◌≤◌, ◌+◌, ℕ, Bool, List, [], ◌++◌, length, Option, Result, Ok, Err, ⊤}
 use Rattle.gfx_model.specs.Limits.{max_script}
 use Rattle.gfx_script_model.specs.Scripts.{Part, Parses, parses, fails}
 use Rattle.gfx_script_model.specs.Runs.{Safe}
@@ -8,10 +8,12 @@ use Rattle.gfx_script.specs.Line.{phases_of}
 use Rattle.gfx_script.specs.State.{ParsesAs}
 use Rattle.gfx_script.specs.declared.script.Script.{Script}
 use Rattle.gfx_script.specs.declared.kind.ScriptKind.{ScriptKind}
+use Rattle.gfx_script_law.specs.Presents.{presents}
 use Rattle.gfx_gather.specs.Shown.{shown_phases}
+use Rattle.gfx_capture.specs.Log.{IsSound}
 use Rattle.gfx_log_law.specs.Logs.{log_file}
 use Rattle.gfx_player.specs.declared.asked.Asked.{Asked}
-use Rattle.gfx_player.specs.declared.asked.Asked.TheVariants.{Between}
+use Rattle.gfx_player.specs.declared.asked.Asked.TheVariants.{All, Between}
 use Rattle.gfx_recorder.specs.Outcomes.{IsOutcome}
 use Rattle.gfx_recorder.specs.declared.outcome.Outcome.{Outcome}
 use Rattle.gfx_recorder.specs.declared.outcome.Outcome.TheVariants as ran
@@ -24,6 +26,7 @@ use Rattle.gfx_recording.specs.declared.fault.RecordingFault.TheVariants.{BadScr
 -- The text is what a source told up to its end, or one byte more than a script may have.
 pub record IsTextOf (text before after : List ℕ) : Type 0 where
   pub parts : before ≡ text ++ after
+  pub few : length text ≤ max_script + 1
   pub ended : length text ≤ max_script → after ≡ []
 
 -- the script that a text is, or its first line with a fault
@@ -55,6 +58,28 @@ LeftMeans (ran.Refused line fault at log) = MeansHistory log.minor log.entries
 LeftMeans (ran.LogFull long wanted log) = MeansHistory log.minor log.entries
 LeftMeans ran.WantMemory = ⊤
 
+-- the entries of a log that has all calls are those of every log
+abbrev pub LeftIsSound : Outcome → Type 0
+LeftIsSound (ran.Done log) = IsSound log.minor log.entries
+LeftIsSound _ = ⊤
+
+-- ---- the frames
+
+-- the frames that are asked for are among so many, which are numbered from 1 on
+abbrev pub AreFrames : Asked → ℕ → Type 0
+AreFrames All count = ⊤
+AreFrames (Between first last) count = (1 ≤ first) × (last ≤ count)
+
+-- the range begins at 0, or ends behind the last of so many
+abbrev pub AreNoFrames : Asked → ℕ → Type 0
+AreNoFrames All count = ⊥
+AreNoFrames (Between first last) count = (first ≡ 0) ⊎ (count < last)
+
+-- a frame isn't there only where the range isn't among the presents of the script, which are told
+abbrev pub TellsFrames : Asked → ℕ → Result Unit RecordingFault → Type 0
+TellsFrames asked count (Err (NoSuchFrame first last)) = AreNoFrames asked count × (first ≡ 1) × (last ≡ count)
+TellsFrames asked count _ = ⊤
+
 -- ---- the recording
 
 -- the source was read to its end, its text is a script, which was run, with writes gathered where that is asked for, the log that the run left is a file of its history, and this is what was written of it
@@ -67,6 +92,7 @@ pub record IsRecorded (gathers : Bool) (asked : Asked) (before after : Option (L
   pub ran : IsOutcome minor (shown_phases gathers phases) outcome
   pub means : LeftMeans outcome
   pub wrote : Writes asked before after outcome result
+  pub frames : TellsFrames asked (presents phases) result
 
 -- how a recording ends
 abbrev pub Records : Bool → Asked → Option (List ℕ) → Option (List ℕ) → Result Unit RecordingFault → List ℕ → List ℕ → Type 0
@@ -81,13 +107,14 @@ Leaves (Err (BadScript line kind)) unwritten = unwritten
 Leaves (Err ReadFault) unwritten = unwritten
 Leaves _ unwritten = ⊤
 
--- a text that is a script no call of which can be refused, with writes gathered where that is asked for
-abbrev pub IsSafeText : Bool → List ℕ → Type 0
-IsSafeText gathers text = (minor : ℕ) × (phases : List (List Part)) × Parses text (parses minor phases) × Safe minor (shown_phases gathers phases)
+-- a text that is a script no call of which can be refused, with writes gathered where that is asked for, and which has the frames that are asked for
+abbrev pub IsSafeText : Bool → Asked → List ℕ → Type 0
+IsSafeText gathers asked text =
+    (minor : ℕ) × (phases : List (List Part)) × Parses text (parses minor phases) × Safe minor (shown_phases gathers phases)
+    × AreFrames asked (presents phases)
 
--- nothing but want of memory stopped the recording, or that a frame isn't there which is asked for
-abbrev pub IsUnstopped : Asked → Result Unit RecordingFault → Type 0
-IsUnstopped asked (Ok done) = ⊤
-IsUnstopped asked (Err WantMemory) = ⊤
-IsUnstopped (Between first last) (Err (NoSuchFrame low high)) = ⊤
-IsUnstopped asked (Err _) = ⊥
+-- nothing but want of memory stopped the recording
+abbrev pub IsUnstopped : Result Unit RecordingFault → Type 0
+IsUnstopped (Ok done) = ⊤
+IsUnstopped (Err WantMemory) = ⊤
+IsUnstopped (Err _) = ⊥

@@ -1,7 +1,7 @@
 //! What a run left, written.
 ghost use Rattle.std.specs.Prelude.{◌≡◌, ◌≤◌, Err};
 ghost use Rattle.gfx_io.specs.Causes.{Rose};
-ghost use Rattle.gfx_recording.specs.Records.{LeftMeans, Writes};
+ghost use Rattle.gfx_recording.specs.Records.{LeftIsSound, LeftMeans, Writes};
 ghost use Rattle.gfx_recording.specs.Writing.{IsOrdered};
 
 use crate::RecordingFault;
@@ -20,6 +20,7 @@ pub(crate) fn write_outcome<K: Sink>(
 ) -> Result<(), RecordingFault>
     requires { IsOrdered asked }
     ensures means { LeftMeans outcome }
+    ensures sound { LeftIsSound outcome }
     ensures wrote { Writes asked (K.taken sink.old) (K.taken sink.new) outcome result }
     ensures sink_fault { result ≡ Err RecordingFault.SinkFault → Rose (K.faults sink.old) (K.faults sink.new) }
     ensures later { K.faults sink.old ≤ K.faults sink.new }
@@ -38,6 +39,7 @@ fn write_left<K: Sink>(
 ) -> Result<(), RecordingFault>
     requires { IsOrdered asked }
     ensures means { LeftMeans outcome.now }
+    ensures sound { LeftIsSound outcome.now }
     ensures wrote { Writes asked (K.taken sink.old) (K.taken sink.new) outcome.now result }
     ensures sink_fault { result ≡ Err RecordingFault.SinkFault → Rose (K.faults sink.old) (K.faults sink.new) }
     ensures later { K.faults sink.old ≤ K.faults sink.new }

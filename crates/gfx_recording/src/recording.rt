@@ -30,8 +30,8 @@ pub fn record<R: Threads + Wait + Sync, S: Source, K: Sink, G: Gate + Sync>(
     requires { IsOrdered asked }
     ensures told { IfTold (S.left source.old) (S.left source.new) (Records gathers asked (K.taken sink.old) (K.taken sink.new) result) }
     ensures leaves { Leaves result (sink.new ≡ sink.old) }
-    ensures complete { IsTold (S.left source.old) → IfSome (S.left source.old) (IsSafeText gathers) → ¬ Rose (S.faults source.old) (S.faults source.new)
-        → ¬ Rose (K.faults sink.old) (K.faults sink.new) → IsUnstopped asked result }
+    ensures complete { IsTold (S.left source.old) → IfSome (S.left source.old) (IsSafeText gathers asked) → ¬ Rose (S.faults source.old) (S.faults source.new)
+        → ¬ Rose (K.faults sink.old) (K.faults sink.new) → IsUnstopped result }
     ensures read_fault { result ≡ Err RecordingFault.ReadFault → Rose (S.faults source.old) (S.faults source.new) }
     ensures sink_fault { result ≡ Err RecordingFault.SinkFault → Rose (K.faults sink.old) (K.faults sink.new) }
     ensures later { (S.faults source.old ≤ S.faults source.new) × (K.faults sink.old ≤ K.faults sink.new) }

@@ -4,6 +4,7 @@ ghost use Rattle.gfx_io.specs.Causes.{Rose};
 ghost use Rattle.gfx_types.specs.declared.frame.Frame.{Frame};
 ghost use Rattle.gfx_model.specs.Blocks.{clean};
 ghost use Rattle.gfx_model.specs.Meaning.{Means};
+ghost use Rattle.gfx_capture.specs.Log.{IsSound};
 ghost use Rattle.gfx_log_law.specs.Logs.{log_file};
 ghost use Rattle.gfx_recording.specs.Faults.{IsCutFault, recording_fault};
 ghost use Rattle.gfx_recording.specs.Writing.{Cuts, IsOrdered, MeansHistory, TookThen, WritesAsked, WritesWhole};
@@ -24,6 +25,7 @@ pub(crate) fn write_asked<K: Sink>(
 ) -> Result<(), RecordingFault>
     requires { IsOrdered asked }
     ensures means { MeansHistory log.now.minor log.now.entries }
+    ensures sound { IsSound log.now.minor log.now.entries }
     ensures wrote { WritesAsked asked (K.taken sink.old) (K.taken sink.new) log.now result }
     ensures sink_fault { result ≡ Err RecordingFault.SinkFault → Rose (K.faults sink.old) (K.faults sink.new) }
     ensures later { K.faults sink.old ≤ K.faults sink.new }
@@ -53,6 +55,7 @@ pub(crate) fn write_halted<K: Sink>(
 /// Writes the whole log.
 fn write_log<K: Sink>(log: &Log, sink: &mut K) -> Result<(), RecordingFault>
     ensures means { MeansHistory log.now.minor log.now.entries }
+    ensures sound { IsSound log.now.minor log.now.entries }
     ensures took { WritesWhole (K.taken sink.old) (K.taken sink.new) (log_file log.now.minor log.now.entries) result }
     ensures sink_fault { result ≡ Err RecordingFault.SinkFault → Rose (K.faults sink.old) (K.faults sink.new) }
     ensures later { K.faults sink.old ≤ K.faults sink.new }
@@ -73,6 +76,7 @@ fn write_cut<K: Sink>(
 ) -> Result<(), RecordingFault>
     requires { first ≤ last }
     ensures means { MeansHistory log.now.minor log.now.entries }
+    ensures sound { IsSound log.now.minor log.now.entries }
     ensures cuts { Cuts first last (K.taken sink.old) (K.taken sink.new) (log_file log.now.minor log.now.entries) result }
     ensures sink_fault { result ≡ Err RecordingFault.SinkFault → Rose (K.faults sink.old) (K.faults sink.new) }
     ensures later { K.faults sink.old ≤ K.faults sink.new }
