@@ -48,17 +48,17 @@ ReadsCapture Upgrade = ⊤
 ReadsCapture Lists = ⊤
 ReadsCapture _ = ⊥
 
--- the command asks for frames
-abbrev pub AsksForFrames : Command → Type 0
-AsksForFrames (Replay pixels frames) = ⊤
-AsksForFrames (Trim r) = ⊤
-AsksForFrames (Lean r) = ⊤
-AsksForFrames _ = ⊥
-
 -- the frames that the words ask for
 abbrev pub asked_by : Option FrameRange → Asked
 asked_by None = All
 asked_by (Some r) = Between r.first r.last
+
+-- the command asks for a range of frames
+abbrev pub AsksForFrames : Command → Type 0
+AsksForFrames (Replay pixels frames) = play.IsRange (asked_by frames)
+AsksForFrames (Trim r) = ⊤
+AsksForFrames (Lean r) = ⊤
+AsksForFrames _ = ⊥
 
 -- the text is the listing of a file
 abbrev pub IsSomeListing : List ℕ → Type 0

@@ -8,7 +8,7 @@ ghost use Rattle.gfx_decode.specs.Reachable.{blocks_ahead};
 ghost use Rattle.gfx_player.specs.Ends.{IsStopped};
 ghost use Rattle.gfx_player.specs.Faults.{of_decoder};
 ghost use Rattle.gfx_player.specs.Walks.{HasAll, IsAtBlock};
-ghost use Rattle.gfx_play.specs.Shows.{Answers, EndsOnly};
+ghost use Rattle.gfx_play.specs.Shows.{Answers, EndsOnly, MayMiss};
 ghost use Rattle.gfx_fan.specs.Gathered.{Gathering, IsFeedFault};
 ghost use Rattle.gfx_fan.specs.Kept.{IsBare, plain};
 ghost use Rattle.gfx_fan.specs.Walked.{Came, IsReady};
@@ -31,6 +31,7 @@ pub fn digests<R: Threads + Sync, S: Source, K: Sink>(
     sink: &mut K,
 ) -> Result<(), PlayFault>
     ensures told { IfTold (S.left source.old) (S.left source.new) (Answers Asked.All false (K.taken sink.old) (K.taken sink.new) result) }
+    ensures misses { IfErr result (MayMiss Asked.All) }
     ensures read_fault { result ≡ Err PlayFault.ReadFault → Rose (S.faults source.old) (S.faults source.new) }
     ensures sink_fault { result ≡ Err PlayFault.SinkFault → Rose (K.faults sink.old) (K.faults sink.new) }
     ensures later { (S.faults source.old ≤ S.faults source.new) × (K.faults sink.old ≤ K.faults sink.new) }
@@ -83,6 +84,7 @@ impl Walk {
         requires gathering { (file : Maybe (List ℕ)) × Gathering self.old.player self.old.album [] file (S.left source.old) (K.taken sink.old) (K.taken sink.old) }
         ensures told { (file : Maybe (List ℕ)) → Gathering self.old.player self.old.album [] file (S.left source.old) (K.taken sink.old) (K.taken sink.old)
             → IfTold file (S.left source.new) (Answers Asked.All false (K.taken sink.old) (K.taken sink.new) result) }
+        ensures misses { IfErr result (MayMiss Asked.All) }
         ensures read_fault { result ≡ Err PlayFault.ReadFault → Rose (S.faults source.old) (S.faults source.new) }
         ensures sink_fault { result ≡ Err PlayFault.SinkFault → Rose (K.faults sink.old) (K.faults sink.new) }
         ensures later { (S.faults source.old ≤ S.faults source.new) × (K.faults sink.old ≤ K.faults sink.new) }
@@ -135,7 +137,7 @@ impl Walk {
         ensures told { (was : Player) → (shown : List Frame) → (file : Maybe (List ℕ)) → (middle : Maybe (List ℕ)) → (rest : Maybe (List ℕ)) → (before : Maybe (List ℕ))
             → Gathering was self.old.album shown file middle before (K.taken sink.old) → IfTold file rest (HasAll self.old.player shown)
             → IfTold file rest (Answers Asked.All false before (K.taken sink.new) result) }
-        ensures kind { IfErr result EndsOnly }
+        ensures kind { IfErr result (EndsOnly self.old.album.screen.asked) }
         ensures later { K.faults sink.old ≤ K.faults sink.new }
         ensures cause { result ≡ Err PlayFault.SinkFault → Rose (K.faults sink.old) (K.faults sink.new) }
     {
@@ -153,6 +155,7 @@ impl Walk {
         ensures told { (was : Player) → (shown : List Frame) → (file : Maybe (List ℕ)) → (middle : Maybe (List ℕ)) → (rest : Maybe (List ℕ)) → (before : Maybe (List ℕ))
             → Gathering was self.old.album shown file middle before (K.taken sink.old) → IfTold file rest (IsStopped shown (of_decoder why))
             → IfTold file rest (Answers Asked.All false before (K.taken sink.new) (Err result)) }
+        ensures misses { MayMiss Asked.All result }
         ensures reading { result ≡ PlayFault.ReadFault → why ≡ DecodeFault.ReadFault }
         ensures later { K.faults sink.old ≤ K.faults sink.new }
         ensures cause { result ≡ PlayFault.SinkFault → Rose (K.faults sink.old) (K.faults sink.new) }

@@ -1,5 +1,5 @@
 -- Frames that are shown one after another, and how showing ends.
-use Rattle.std.proofs.Common.{◌≡◌, ◌+◌, ◌-◌, codes, ℕ, Bool, true, false, List, [], ◌∷◌, ◌++◌, length, Option, Result, Ok, Err, refl, sym, ap, subst, ◌∙◌}
+use Rattle.std.proofs.Common.{◌≡◌, ◌+◌, ◌-◌, codes, ℕ, Bool, true, false, List, [], ◌∷◌, ◌++◌, length, Option, Result, Ok, Err, refl, sym, ap, subst, ◌∙◌, arith}
 use Rattle.std.specs.Prelude.{OnOk, IfErr}
 use Rattle.std.specs.Io.KnownBytes.{Appends}
 use Rattle.gfx_io.specs.Pieces.{AppendsPart}
@@ -27,7 +27,7 @@ use Rattle.gfx_player.proofs.Later.{LastShown, last_shown, never_last}
 use Rattle.gfx_player.proofs.Playing.{first_is, highest_is, lowest_is, plays_first, told_beside}
 use Rattle.gfx_play.specs.declared.screen.Screen.{Screen}
 use Rattle.gfx_play.specs.Screens.{lines_of, text_by}
-use Rattle.gfx_play.specs.Shows.{Answers, EndsOnly, IsRange, IsShown, IsWithout, Leaves, text_in}
+use Rattle.gfx_play.specs.Shows.{Answers, EndsOnly, IsRange, IsShown, IsWithout, Leaves, MayMiss, text_in}
 use Rattle.gfx_play.proofs.Lines.{lines_front, lines_in_version, lines_none, lines_then, listing_of, text_part, text_whole}
 
 -- these frames were shown and what is asked for of them was written; the last that is asked for is among them or isn't
@@ -168,8 +168,8 @@ shown_last a pixels p s shown f r file rest before middle after unseen w behind 
 pub shown_end : (a : Asked) (pixels : Bool) (was p : Player) (s : Screen) (shown : List Frame) (r : Result Unit PlayFault) (file left rest before middle after : Option (List ℕ)) →
     Showing a pixels was s shown false file left before middle → IfTold file rest (HasAll p shown) →
     OnOk r ((s.asked ≡ asked.All) × Appends middle after (count_line (codes "frames") s.count)) →
-    ((first last : ℕ) → r ≡ Err (play.NoSuchFrame first last) → IsRange s.asked × (after ≡ middle) × (first ≡ first_frame_of p) × (last ≡ next_frame_of p - 1)) →
-    AppendsPart middle after (count_line (codes "frames") s.count) → IfErr r EndsOnly → IfTold file rest (Answers a pixels before after r)
+    ((first last : ℕ) → r ≡ Err (play.NoSuchFrame first last) → (after ≡ middle) × (first ≡ first_frame_of p) × (last ≡ next_frame_of p - 1)) →
+    AppendsPart middle after (count_line (codes "frames") s.count) → IfErr r (EndsOnly s.asked) → IfTold file rest (Answers a pixels before after r)
 shown_end a pixels was p s shown r file left rest before middle after w told ok without front err =
     told_beside file left rest _ (HasAll p shown) (Answers a pixels before after r) (plays_first was shown file left w.plays) told
     (λ all left rest is h. by r ok without err all rest h (subst (λ m. Appends before middle (lines_of (listing_of m pixels) (asked_of a shown))) is.1 w.text))
@@ -184,22 +184,26 @@ shown_end a pixels was p s shown r file left rest before middle after w told ok 
         (λ text. (record { complete = h.just.ends; text = text }, h.read)) text
 
     by : (r : Result Unit PlayFault) → OnOk r ((s.asked ≡ asked.All) × Appends middle after (count_line (codes "frames") s.count)) →
-        ((first last : ℕ) → r ≡ Err (play.NoSuchFrame first last) → IsRange s.asked × (after ≡ middle) × (first ≡ first_frame_of p) × (last ≡ next_frame_of p - 1)) → IfErr r EndsOnly →
+        ((first last : ℕ) → r ≡ Err (play.NoSuchFrame first last) → (after ≡ middle) × (first ≡ first_frame_of p) × (last ≡ next_frame_of p - 1)) → IfErr r (EndsOnly s.asked) →
         (all rest : List ℕ) → HasAll p shown all rest → Appends before middle (lines_of (listing_of (minor_of all) pixels) (asked_of a shown)) → Answers a pixels before after r all rest
     by (Ok tt) ok without err all rest h text =
         all_shown all rest h s.asked ok.0 w.asked (text_whole a pixels shown s.count all before middle after (ap (asked_of a) h.just.shows) w.count text ok.1)
     by (Err (play.Bad fault block offset)) ok without err all rest h text = absurd err
     by (Err (play.NoSuchFrame first last)) ok without err all rest h text =
         let x = without first last refl in
-        subst (λ t. IsWithout a pixels before t first last all rest) (sym x.1) record {
-          range = subst IsRange w.asked x.0;
+        subst (λ t. IsWithout a pixels before t first last all rest) (sym x.0) record {
+          range = subst IsRange w.asked err;
           end = h.just.ends;
           unseen = ap (has_last a) h.just.shows ∙ w.last;
-          first_is = x.2 ∙ lowest_is p shown all rest h;
-          last_is = x.3 ∙ highest_is p shown all rest h;
+          first_is = x.1 ∙ lowest_is p shown all rest h;
+          last_is = x.2 ∙ highest_is p shown all rest h;
           text = subst (λ fs. Appends before middle (lines_of (listing_of (minor_of all) pixels) (asked_of a fs))) (sym h.just.shows) text;
           read = h.read;
         }
     by (Err play.ReadFault) ok without err all rest h text = absurd err
     by (Err play.SinkFault) ok without err all rest h text = whole all rest h front text
     by (Err play.WantMemory) ok without err all rest h text = whole all rest h front text
+
+-- only a range may lack a frame
+pub end_misses : (a b : Asked) (r : Result Unit PlayFault) → b ≡ a → IfErr r (EndsOnly b) → IfErr r (MayMiss a)
+end_misses a b r same err = grind arith

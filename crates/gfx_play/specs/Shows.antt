@@ -73,12 +73,20 @@ Leaves asked.All bytes left = left ≡ []
 Leaves (asked.Between a b) bytes left = IsBehindLast (asked.Between a b) bytes left
 
 -- what the end of a file may answer
-abbrev pub EndsOnly : PlayFault → Type 0
-EndsOnly (play.Bad fault block offset) = ⊥
-EndsOnly (play.NoSuchFrame first last) = ⊤
-EndsOnly play.ReadFault = ⊥
-EndsOnly play.SinkFault = ⊤
-EndsOnly play.WantMemory = ⊤
+abbrev pub EndsOnly : Asked → PlayFault → Type 0
+EndsOnly a (play.Bad fault block offset) = ⊥
+EndsOnly a (play.NoSuchFrame first last) = IsRange a
+EndsOnly a play.ReadFault = ⊥
+EndsOnly a play.SinkFault = ⊤
+EndsOnly a play.WantMemory = ⊤
+
+-- where the fault says that a frame isn't there, a range was asked for
+abbrev pub MayMiss : Asked → PlayFault → Type 0
+MayMiss a (play.Bad fault block offset) = ⊤
+MayMiss a (play.NoSuchFrame first last) = IsRange a
+MayMiss a play.ReadFault = ⊤
+MayMiss a play.SinkFault = ⊤
+MayMiss a play.WantMemory = ⊤
 
 -- what was written, by the answer: all, what stands before a bad block or a failed read, what is there of a range, or a front
 abbrev pub Answers : Asked → Bool → Option (List ℕ) → Option (List ℕ) → Result Unit PlayFault → List ℕ → List ℕ → Type 0

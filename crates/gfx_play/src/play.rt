@@ -1,10 +1,10 @@
 //! The frames of a file, shown as it is read.
-ghost use Rattle.std.specs.Prelude.{◌≡◌, ◌≤◌, ℕ, List, [], Err};
+ghost use Rattle.std.specs.Prelude.{◌≡◌, ◌≤◌, ℕ, List, [], Err, IfErr};
 ghost use Rattle.std.specs.declared.option.Option.{Option as Maybe};
 ghost use Rattle.gfx_io.specs.Causes.{Rose};
 ghost use Rattle.gfx_io.specs.Told.{IfTold};
 ghost use Rattle.gfx_player.specs.Walks.{Plays};
-ghost use Rattle.gfx_play.specs.Shows.{Answers};
+ghost use Rattle.gfx_play.specs.Shows.{Answers, MayMiss};
 
 use crate::screen::Screen;
 use gfx_frames::Listing;
@@ -23,6 +23,7 @@ pub fn show_frames<S: Source, K: Sink>(
     sink: &mut K,
 ) -> Result<(), PlayFault>
     ensures told { IfTold (S.left source.old) (S.left source.new) (Answers asked pixels (K.taken sink.old) (K.taken sink.new) result) }
+    ensures misses { IfErr result (MayMiss asked) }
     ensures read_fault { result ≡ Err PlayFault.ReadFault → Rose (S.faults source.old) (S.faults source.new) }
     ensures sink_fault { result ≡ Err PlayFault.SinkFault → Rose (K.faults sink.old) (K.faults sink.new) }
     ensures later { (S.faults source.old ≤ S.faults source.new) × (K.faults sink.old ≤ K.faults sink.new) }
@@ -45,6 +46,7 @@ fn show_opened<S: Source, K: Sink>(
     requires { (file : Maybe (List ℕ)) × Plays player.old [] file (S.left source.old) }
     ensures told { (file : Maybe (List ℕ)) → Plays player.old [] file (S.left source.old)
         → IfTold file (S.left source.new) (Answers asked pixels (K.taken sink.old) (K.taken sink.new) result) }
+    ensures misses { IfErr result (MayMiss asked) }
     ensures read_fault { result ≡ Err PlayFault.ReadFault → Rose (S.faults source.old) (S.faults source.new) }
     ensures sink_fault { result ≡ Err PlayFault.SinkFault → Rose (K.faults sink.old) (K.faults sink.new) }
     ensures later { (S.faults source.old ≤ S.faults source.new) × (K.faults sink.old ≤ K.faults sink.new) }

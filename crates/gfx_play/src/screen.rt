@@ -12,7 +12,7 @@ ghost use Rattle.gfx_player.specs.Faults.{IsUnwritten};
 ghost use Rattle.gfx_player.specs.Walks.{first_frame_of, next_frame_of};
 ghost use Rattle.gfx_play.specs.Faults.{of_printer};
 ghost use Rattle.gfx_play.specs.Screens.{text_by};
-ghost use Rattle.gfx_play.specs.Shows.{EndsOnly, IsRange};
+ghost use Rattle.gfx_play.specs.Shows.{EndsOnly};
 
 use gfx_frames::{Listing, PrintFault, write_frame};
 use gfx_io::{Sink, write_whole};
@@ -82,10 +82,10 @@ impl Screen {
         sink: &mut K,
     ) -> Result<(), PlayFault>
         ensures ok { OnOk result ((self.now.asked ≡ Asked.All) × Appends (K.taken sink.old) (K.taken sink.new) (count_line (codes "frames") self.now.count)) }
-        ensures without { (first : ℕ) → (last : ℕ) → result ≡ Err (PlayFault.NoSuchFrame first last) → IsRange self.now.asked × (sink.new ≡ sink.old)
+        ensures without { (first : ℕ) → (last : ℕ) → result ≡ Err (PlayFault.NoSuchFrame first last) → (sink.new ≡ sink.old)
             × (first ≡ first_frame_of player.now) × (last ≡ next_frame_of player.now - 1) }
         ensures front { AppendsPart (K.taken sink.old) (K.taken sink.new) (count_line (codes "frames") self.now.count) }
-        ensures err { IfErr result EndsOnly }
+        ensures err { IfErr result (EndsOnly self.now.asked) }
         ensures later { K.faults sink.old ≤ K.faults sink.new }
         ensures cause { result ≡ Err PlayFault.SinkFault → Rose (K.faults sink.old) (K.faults sink.new) }
     {

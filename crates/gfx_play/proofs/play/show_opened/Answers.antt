@@ -4,7 +4,7 @@ use Rattle.gfx_replay.specs.Replayer.{bytes_of}
 use Rattle.gfx_replay.specs.Shown.{frame_of}
 use Rattle.gfx_player.proofs.Playing.{plays_going, room_for}
 use Rattle.gfx_play.proofs.Lines.{listing_of}
-use Rattle.gfx_play.proofs.Showing.{Counts, next_fails, show_fails, shown_end, shown_last, shown_more, shown_none}
+use Rattle.gfx_play.proofs.Showing.{Counts, end_misses, next_fails, show_fails, shown_end, shown_last, shown_more, shown_none}
 use Rattle.gfx_play.proofs.play.show_opened.Goals as goal
 
 pub frames-init : goal.frames-init
@@ -79,4 +79,10 @@ pub returns-clause-told : goal.returns-clause-told
 returns-clause-told g c file plays =
     let (shown, w) = c.frames.invariant.showing file plays in
     shown_end c.args.asked c.args.pixels c.frames.player c.next_frame.new.self c.frames.screen shown c.end.result _ _ _ _ _ _ w (c.in_ok-frame.ensures.none (ap Ok c.in_default.is) shown _ w.plays)
-    c.end.ensures.ok (λ first last is. let x = c.end.ensures.without first last is in (x.0, ap (λ s. g.K.Sink.taken s) x.1, x.2, x.3)) c.end.ensures.front c.end.ensures.err
+    c.end.ensures.ok (λ first last is. let x = c.end.ensures.without first last is in (ap (λ s. g.K.Sink.taken s) x.0, x.1, x.2)) c.end.ensures.front c.end.ensures.err
+
+pub returns-clause-misses : goal.returns-clause-misses
+returns-clause-misses g c =
+    let (file, plays) = c.requires in
+    let (shown, w) = c.frames.invariant.showing file plays in
+    end_misses c.args.asked c.frames.screen.asked c.end.result w.asked c.end.ensures.err

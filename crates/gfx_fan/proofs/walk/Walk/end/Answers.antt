@@ -21,4 +21,4 @@ returns-clause-told g c was shown file middle rest before s all =
     let b = g.K.Sink.taken c.flush.new.sink in
     shown_end asked.All false was k.player c.flush.new.self.screen shown c.end.result file middle rest before b _
     (subst (λ t. Showing asked.All false was t shown false file middle before b) (sym c.in_ok-flush.ensures.screen) written) all
-    c.end.ensures.ok (λ first last is. let x = c.end.ensures.without first last is in (x.0, ap (λ t. g.K.Sink.taken t) x.1, x.2, x.3)) c.end.ensures.front c.end.ensures.err
+    c.end.ensures.ok (λ first last is. let x = c.end.ensures.without first last is in (ap (λ t. g.K.Sink.taken t) x.0, x.1, x.2)) c.end.ensures.front c.end.ensures.err

@@ -1,5 +1,7 @@
 use Rattle.std.proofs.Common.{[], Ok, ap, arith}
 use Rattle.std.proofs.lemmas.Result.{err_from_is_err_and}
+use Rattle.gfx_player.specs.declared.asked.Asked.TheVariants as asked
+use Rattle.gfx_play.proofs.Showing.{end_misses}
 use Rattle.gfx_fan.proofs.Rounds.{is_ready}
 use Rattle.gfx_fan.proofs.walk.Walk.run.Goals as goal
 
@@ -29,6 +31,14 @@ returns-in-Clean-clause-told g c file opened =
     let (more, came) = c.in_ok-ending.ensures.ok shown _ _ w in
     let (was, middle, s, all) = rw c.in-Clean.is at came in
     c.end.ensures.told was more _ middle _ _ s all
+
+pub returns-in-Clean-clause-misses : goal.returns-in-Clean-clause-misses
+returns-in-Clean-clause-misses g c =
+    let (file, opened) = c.requires.gathering in
+    let (shown, w) = c.groups.invariant.gathering file opened in
+    let (more, came) = c.in_ok-ending.ensures.ok shown _ _ w in
+    let (was, middle, s, all) = rw c.in-Clean.is at came in
+    end_misses asked.All c.next_group.new.self.album.screen.asked c.end.result s.asked_is c.end.ensures.kind
 
 pub returns-in-Stopped-clause-told : goal.returns-in-Stopped-clause-told
 returns-in-Stopped-clause-told g c file opened =
