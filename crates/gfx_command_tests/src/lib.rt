@@ -1,7 +1,9 @@
 //! Tests of whole runs over files and texts in memory, by what they write, what they note and their status: the words of the
-//! command line, `info`, `make`, `upgrade`, `list` and `unlist`, and files with numbers that were made to do harm.
+//! command line, `info`, `make`, `capture`, `upgrade`, `list` and `unlist`, and files with numbers that were made to do harm.
 #![tactic(auto)]
 
+#[cfg(test)]
+mod captured;
 #[cfg(test)]
 mod damaged;
 #[cfg(test)]

@@ -23,7 +23,7 @@ frames 3
 ";
 
 /// The file of three frames in version 2.
-fn upgraded(alloc: Global) -> Result<Vec<u8>, Fail> {
+pub(crate) fn upgraded(alloc: Global) -> Result<Vec<u8>, Fail> {
     let mut file = file_of(alloc, 2, &ONE_FRAME[..21])?;
     append(alloc, &[PRESENT], &mut file)?;
     for _ in 0..2 {

@@ -105,3 +105,23 @@ fn words_of_a_recording_are_no_command_over_files(rt: HostRuntime) -> Result<(),
     }
     Ok(())
 }
+
+/// Words of no recording, a line each; in the first line there are none.
+const NO_RECORDINGS: &str = "
+replay
+capture 1-1
+capture --gather --gather
+capture --frames
+capture --frames 2-1
+capture --frames 1-1 --gather
+";
+
+#[test]
+fn words_of_no_recording_are_answered_by_the_usage_line(rt: HostRuntime) -> Result<(), Fail> {
+    for line in NO_RECORDINGS.lines() {
+        let words = words_in(rt.alloc(), line)?;
+        let ended = Outside::of(&words, b"no capture").capture(&rt, rt.alloc())?;
+        assert_unread(&rt, line, &ended, (2, b"", USAGE));
+    }
+    Ok(())
+}

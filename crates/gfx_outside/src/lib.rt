@@ -1,9 +1,10 @@
 //! A run of the program for tests, with all that is outside of it in memory.
 #![tactic(auto)]
 
-use gfx_cli::{Status, run_fan, run_files};
-use gfx_io::{MemSink, MemSource};
+use gfx_cli::{Status, run_capture, run_fan, run_files};
+use gfx_io::{MemSink, MemSource, NoGate};
 use std::alloc::{AllocError, Global};
+use std::sync::Wait;
 use std::test::Fail;
 use std::thread::Threads;
 
@@ -115,6 +116,23 @@ impl<'a> Outside<'a> {
             notes,
         } = &mut streams;
         let status = run_fan(rt, alloc, &words, source, sink, notes);
+        Ok(streams.ended(status))
+    }
+
+    /// How it ends where the threads of a script may run.
+    pub fn capture<R: Threads + Wait + Sync>(
+        self,
+        rt: &R,
+        alloc: Global,
+    ) -> Result<Ended, AllocError> {
+        let words = words_of(alloc, self.words)?;
+        let mut streams = self.streams(alloc)?;
+        let Streams {
+            source,
+            sink,
+            notes,
+        } = &mut streams;
+        let status = run_capture(rt, alloc, &words, source, sink, notes, &NoGate);
         Ok(streams.ended(status))
     }
 

@@ -7,5 +7,3 @@ mod logs;
 mod recording;
 #[cfg(test)]
 mod side_by_side;
-#[cfg(test)]
-mod texts;

@@ -1,9 +1,11 @@
 //! The logs that scripts leave.
 
-use crate::recording::{Left, Refusal, joined, run};
-use crate::texts::{BARRIER, BEGIN, COPY, END, LONG_COPY, OBJECTS, PRESENT};
+use crate::recording::{Left, Refusal, run};
 use gfx_io::NoGate;
 use gfx_samples::files::one_frame;
+use gfx_samples::scripts::{
+    BARRIER, BEGIN, COPY, DRAW, END, LONG_COPY, MORE, OBJECTS, PRESENT, WRITES, joined,
+};
 use gfx_types::Fault;
 use std::process::Abort;
 use std::test::Fail;
@@ -21,18 +23,9 @@ struct Case {
     is_front: bool,
 }
 
-/// A line that is accepted after any others.
-const MORE: &[u8] = b"more = vkCreateInstance api=4194304\n";
-
 const FIRST: &[u8] = b"phase\nthread 0\n";
 
 const SECOND: &[u8] = b"phase\nthread 1\n";
-
-/// Writes over the bytes that are there and behind them.
-const WRITES: &[u8] = b"\
-write memory=mem offset=1 bytes=6263
-write memory=mem offset=8 bytes=7a
-";
 
 /// A write to memory that was unmapped.
 const UNMAPPED: &[u8] = b"\
@@ -51,7 +44,7 @@ const CASES: [Case; 9] = [
     },
     Case {
         name: "a script of one frame leaves its file",
-        pieces: &[OBJECTS, BEGIN, BARRIER, COPY, END, PRESENT],
+        pieces: &[OBJECTS, BEGIN, BARRIER, COPY, END, DRAW, PRESENT],
         gathers: false,
         refused: None,
         length: 1131,
@@ -59,7 +52,7 @@ const CASES: [Case; 9] = [
     },
     Case {
         name: "what stands before a refused command is kept",
-        pieces: &[OBJECTS, BEGIN, BARRIER, LONG_COPY, END, PRESENT],
+        pieces: &[OBJECTS, BEGIN, BARRIER, LONG_COPY, END, DRAW, PRESENT],
         gathers: false,
         refused: Some((19, Fault::OutOfRange, 16)),
         length: 783,
@@ -67,7 +60,9 @@ const CASES: [Case; 9] = [
     },
     Case {
         name: "a later phase uses what others made",
-        pieces: &[OBJECTS, SECOND, BEGIN, BARRIER, COPY, END, FIRST, PRESENT],
+        pieces: &[
+            OBJECTS, SECOND, BEGIN, BARRIER, COPY, END, FIRST, DRAW, PRESENT,
+        ],
         gathers: false,
         refused: None,
         length: 1131,
@@ -83,7 +78,7 @@ const CASES: [Case; 9] = [
     },
     Case {
         name: "each write stands where it was made",
-        pieces: &[OBJECTS, WRITES, BEGIN, BARRIER, COPY, END, PRESENT],
+        pieces: &[OBJECTS, WRITES, BEGIN, BARRIER, COPY, END, DRAW, PRESENT],
         gathers: false,
         refused: None,
         length: 1230,
@@ -91,7 +86,7 @@ const CASES: [Case; 9] = [
     },
     Case {
         name: "gathered writes stand before the next submit",
-        pieces: &[OBJECTS, WRITES, BEGIN, BARRIER, COPY, END, PRESENT],
+        pieces: &[OBJECTS, WRITES, BEGIN, BARRIER, COPY, END, DRAW, PRESENT],
         gathers: true,
         refused: None,
         length: 1180,
@@ -99,7 +94,7 @@ const CASES: [Case; 9] = [
     },
     Case {
         name: "a write to unmapped memory is refused",
-        pieces: &[OBJECTS, UNMAPPED, BEGIN, BARRIER, COPY, END, PRESENT],
+        pieces: &[OBJECTS, UNMAPPED, BEGIN, BARRIER, COPY, END, DRAW, PRESENT],
         gathers: false,
         refused: Some((16, Fault::MapState, 13)),
         length: 639,
@@ -107,7 +102,7 @@ const CASES: [Case; 9] = [
     },
     Case {
         name: "and where it is gathered, before the next submit",
-        pieces: &[OBJECTS, UNMAPPED, BEGIN, BARRIER, COPY, END, PRESENT],
+        pieces: &[OBJECTS, UNMAPPED, BEGIN, BARRIER, COPY, END, DRAW, PRESENT],
         gathers: true,
         refused: Some((25, Fault::MapState, 21)),
         length: 1059,

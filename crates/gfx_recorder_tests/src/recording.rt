@@ -9,22 +9,13 @@ use gfx_io::Gate;
 use gfx_recorder::{Outcome, record_script};
 use gfx_script::{Script, ScriptFault, parse};
 use gfx_types::Fault;
-use std::alloc::{AllocError, Global};
+use std::alloc::Global;
 use std::sync::Wait;
 use std::test::Fail;
 use std::thread::Threads;
 
 /// The line that is refused, why, and behind how many blocks.
 pub(crate) type Refusal = (u32, Fault, u64);
-
-/// A text that is these, one behind the other.
-pub(crate) fn joined(alloc: Global, pieces: &[&[u8]]) -> Result<Vec<u8>, AllocError> {
-    let mut text = Vec::new(alloc);
-    for piece in pieces {
-        text.extend_from_slice(piece)?;
-    }
-    Ok(text)
-}
 
 /// The script that a text is, as it is run.
 fn script_of(alloc: Global, gathers: bool, text: &[u8]) -> Result<Script, Fail>

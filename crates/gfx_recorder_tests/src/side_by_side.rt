@@ -1,11 +1,22 @@
 //! What a gate sees of a recording: threads of a phase run at once, and commands are appended several at a time.
 
-use crate::recording::{joined, record};
-use crate::texts::{BARRIER, BEGIN, OBJECTS, TWO_THREADS};
+use crate::recording::record;
 use gfx_io::Gate;
+use gfx_samples::scripts::{BARRIER, BEGIN, OBJECTS, joined};
 use std::hint::spin_loop;
 use std::sync::atomic::{AtomicU64, Ordering};
 use std::test::Fail;
+
+/// Two threads with two lines each, none of which names what the other thread makes.
+const TWO_THREADS: &[u8] = b"\
+phase
+thread 0
+one = vkCreateInstance api=4194304
+surf = vkCreateHeadlessSurfaceEXT instance=one
+thread 1
+other = vkCreateInstance api=4194304
+more = vkCreateHeadlessSurfaceEXT instance=other
+";
 
 /// How often a thread looks whether the other came.
 const TURNS: u64 = 1 << 28;
