@@ -13,6 +13,7 @@ use std::alloc::{AllocError, Global};
 #[derive(Clone, Copy)]
 pub enum Creation {
     Instance,
+    Surface { instance: u64 },
     Device { instance: u64 },
     Queue { device: u64 },
     Pool { device: u64 },
@@ -30,6 +31,10 @@ impl Creation {
             Creation::Instance => Ok(Effect::Call(Call::CreateInstance {
                 instance: id,
                 api: 1,
+            })),
+            Creation::Surface { instance } => Ok(Effect::Call(Call::CreateHeadlessSurfaceEXT {
+                instance,
+                surface: id,
             })),
             Creation::Device { instance } => Ok(Effect::Call(Call::CreateDevice {
                 instance,

@@ -10,7 +10,7 @@ use std::process::Abort;
 use std::sync::Wait;
 use std::test::Fail;
 
-/// The first pass creates an instance and the second ends it, so a device of it is refused.
+/// The first pass creates an instance and the second ends it, so a surface of it is refused.
 fn act<R: Abort + Wait>(
     rt: &R,
     alloc: Global,
@@ -30,7 +30,7 @@ fn act<R: Abort + Wait>(
     let ended = second.make(rt, alloc, capture, Use::DestroyInstance { instance: 1 });
     assert_eq!(rt; ended, Ok(Receipt { from: 1, count: 1 }));
 
-    let late = first.create(rt, alloc, capture, Creation::Device { instance: 1 });
+    let late = first.create(rt, alloc, capture, Creation::Surface { instance: 1 });
     let refused = AppendFault::Refused {
         fault: Fault::NotLive,
         at: 2,

@@ -10,10 +10,10 @@ use std::process::Abort;
 use std::test::Fail;
 
 /// How many bytes each of the two large fills has, which is the most that a fill has here.
-const LARGE: usize = 133_000_000;
+const LARGE: usize = 134_217_000;
 
 /// How many bytes a fill behind them has that needs one byte more than there is.
-const OVER: usize = 2_435_117;
+const OVER: usize = 1_117;
 
 /// What appending the effect alone answers.
 fn append(
@@ -97,14 +97,14 @@ fn fill_up<R: Abort>(rt: &R, log: &mut Log, buffer: &mut ThreadBuffer, large: &[
 {
     assert_eq!(rt; fill(log, buffer, large), Ok(Receipt { from: 4, count: 1 }));
     assert_eq!(rt; fill(log, buffer, large), Ok(Receipt { from: 5, count: 1 }));
-    assert_eq!(rt; log.bytes().len(), 266_000_292);
+    assert_eq!(rt; log.bytes().len(), 268_434_292);
     let full = AppendFault::LogFull {
-        length: 266_000_292,
-        wanted: 2_435_165,
+        length: 268_434_292,
+        wanted: 1_165,
         done: 0,
     };
     assert_eq!(rt; fill(log, buffer, over), Err(full));
-    assert_eq!(rt; (log.blocks(), log.bytes().len()), (6, 266_000_292));
+    assert_eq!(rt; (log.blocks(), log.bytes().len()), (6, 268_434_292));
     let [_, fitting @ ..] = over else {
         panic!(rt; "a byte")
     };
