@@ -8,7 +8,7 @@ TOP = os.path.dirname(os.path.dirname(os.path.abspath(__file__)))
 BUILT = os.path.join(TOP, "crates", "gfxcap", "out", "gfxcap")
 FIRST = os.path.join(TOP, "examples", "first.gfxcap")
 GNU_TIME = "/usr/bin/time"
-ROUNDS = 9
+ROUNDS = 15
 
 
 def program_of(words):
