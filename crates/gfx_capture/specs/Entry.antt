@@ -22,6 +22,7 @@ entry thread event = record { thread = thread; event = event }
 abbrev pub entries_under : ℕ → List Event → List Entry
 entries_under thread events = map (entry thread) events
 
+-- the thread under which an entry stands
 abbrev pub entry_thread : Entry → ℕ
 entry_thread e = e.thread
 
@@ -29,6 +30,7 @@ entry_thread e = e.thread
 abbrev pub event_ids : Event → List ℕ
 event_ids e = defines_of 1 e
 
+-- the ids that an entry creates
 abbrev pub entry_ids : Entry → List ℕ
 entry_ids e = event_ids e.event
 

@@ -26,6 +26,7 @@ pub record CanBePut (m : ℕ) (e : Event) : Type 0 where
 abbrev pub events_in : ℕ → ℕ → List ℕ → List Event
 events_in m n bytes = map (λ e. e.event) (entries_in m n bytes)
 
+-- what contracts see of a buffer in version m whose bytes are n blocks
 abbrev pub buffered : ℕ → ℕ → List ℕ → Buffered
 buffered m n bytes = record { minor = m; events = events_in m n bytes }
 
@@ -43,6 +44,7 @@ pub record IsPutOf (m : ℕ) (e : Event) (block : List ℕ) : Type 0 where
   pub can : CanBePut m e
   pub spelled : block ≡ encoding m 0 e
 
+-- the bytes are the block of some event that can be put, under thread 0
 abbrev pub IsPut : ℕ → List ℕ → Type 0
 IsPut m block = (e : Event) × IsPutOf m e block
 

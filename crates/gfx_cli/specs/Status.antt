@@ -3,6 +3,7 @@ use Rattle.std.specs.Prelude.{ℕ}
 use Rattle.gfx_cli.specs.declared.status.Status.{Status}
 use Rattle.gfx_cli.specs.declared.status.Status.TheVariants.{Done, WantMemory, Usage, BadFile, NoSuchFrame, ReadFault, WriteFault, BadScript, CallRefused, LogFull, BadListing}
 
+-- the number with which the process ends
 abbrev pub status_code : Status → ℕ
 status_code Done = 0
 status_code WantMemory = 1

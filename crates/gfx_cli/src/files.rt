@@ -9,6 +9,7 @@ use crate::notes::{note, tell};
 use gfx_io::{Sink, Source};
 use std::alloc::Global;
 
+/// The line that is noted where the words name no command.
 pub(crate) const USAGE: &str =
     "usage: gfxcap info; replay [--pixels] [--frames A-B]; trim A-B; capture [--gather] [--frames A-B]; make N; upgrade; lean A-B; list; unlist; digests\n";
 

@@ -11,6 +11,7 @@ pub record Spelled : Type 0 where
   pub call_id : ℕ
   pub params : List ℕ
 
+-- how the logic stores it, as its fields in a row
 abbrev pub spelled_code : Coded Spelled
 spelled_code =
     code_by (ℕ × List ℕ) (coded× coded_ℕ (coded_list coded_ℕ)) (λ s. (s.call_id, s.params)) (λ p. record { call_id = p.0; params = p.1 }) (λ _. refl)

@@ -29,6 +29,7 @@ module _ {X : Type 0} where
   pub is_distinct-keys : (m : FinMap nat_cmp X) → is_distinct (map.keys m) ≡ true
   is_distinct-keys m = distinct_entries (entries m) (entries_sorted m)
 
+-- the ids of live objects are distinct
 pub is_distinct-ids : (k : Kept) → is_distinct (answers k).ids ≡ true
 unfolding answers
 is_distinct-ids k = is_distinct-keys k.rows

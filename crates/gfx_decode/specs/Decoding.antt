@@ -46,6 +46,7 @@ pub record IsBlockHere (minor : ℕ) (at : Position) (raw : Raw) : Type 0 where
   pub block : IsBlock minor raw.bytes.now (content_of raw.block)
   pub counted : side_count at raw.bytes.now < 2 ^ 32
 
+-- the decoder had read the header and had not failed, and the block stands where it was
 abbrev pub IsBlockAt : Stage → Raw → Type 0
 IsBlockAt Fresh raw = ⊥
 IsBlockAt (At minor at) raw = IsBlockHere minor at raw
@@ -64,6 +65,7 @@ pub record IsFramedHere (at : Position) (b : FramedBlock) : Type 0 where
   pub framed : IsFramed b.framing.kind b.framing.size b.bytes.now
   pub counted : side_count at b.bytes.now < 2 ^ 32
 
+-- the decoder had read the header and had not failed, and such a block stands where it was
 abbrev pub IsFramedAt : Stage → FramedBlock → Type 0
 IsFramedAt Fresh b = ⊥
 IsFramedAt (At minor at) b = IsFramedHere at b
@@ -75,6 +77,7 @@ behind_framed Fresh b = Fresh
 behind_framed (At minor at) b = At minor (next_position at b.bytes.now)
 behind_framed (Failed why) b = Failed why
 
+-- the decoder after an answer with such a block: behind it, where it was at the end, and failed from then on
 abbrev pub GoesFramed : Stage → Result (Option FramedBlock) DecodeFault → Stage → Type 0
 GoesFramed old (Ok (Some b)) new = new ≡ behind_framed old b
 GoesFramed old (Ok None) new = new ≡ old

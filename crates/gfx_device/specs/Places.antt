@@ -14,12 +14,15 @@ use Rattle.gfx_device.specs.Rows.{AreWithin, copied}
 abbrev pub Places : Type 0
 Places = Handle → Option (List ℕ)
 
+-- the places of a device
 abbrev pub places : Device → Places
 places d handle = get d.places handle.key
 
+-- the bytes under a handle, no byte where it has no place
 abbrev pub bytes_of : Places → Handle → List ℕ
 bytes_of p handle = unwrap_or (p handle) []
 
+-- the two are one handle
 abbrev pub same_handle : Handle → Handle → Bool
 same_handle a b = a.key == b.key
 
@@ -47,6 +50,7 @@ HasRange p handle at n = IsSomeAnd (p handle) (λ bytes. at + n ≤ length bytes
 
 -- ---- ops
 
+-- the place whose bytes an op changes
 abbrev pub target_of : DeviceOp → Handle
 target_of (Put place offset bytes) = place
 target_of (PutGiven place offset) = place

@@ -4,7 +4,7 @@ ghost use Rattle.gfx_device.specs.Rows.{copied, AreWithin};
 
 use gfx_pages::{Bytes, WantMemory};
 
-// Rows of `length` bytes, the first at the two offsets and each next one step further.
+/// So many `rows` of `length` bytes each, the first at the two offsets and each next one step further; offsets and steps are in bytes.
 #[derive(Clone, Copy)]
 pub struct Rows {
     pub to_offset: u64,
@@ -15,7 +15,7 @@ pub struct Rows {
     pub rows: u64,
 }
 
-// Copies rows of other bytes, in order.
+/// Copies rows of other bytes, in order. After an error the bytes of the target are not known; they are as many as before.
 pub fn copy_apart(target: &mut Bytes, source: &Bytes, copy: Rows) -> Result<(), WantMemory>
     requires to { AreWithin (length target.old) copy.to_offset copy.to_step copy.length copy.rows }
     requires from { AreWithin (length source.now) copy.from_offset copy.from_step copy.length copy.rows }
@@ -65,7 +65,8 @@ fn copy_rows(target: &mut Bytes, source: &Bytes, copy: Rows) -> Result<(), WantM
     Ok(())
 }
 
-// Copies rows of the same bytes, in order: a row may have what an earlier one wrote.
+/// Copies rows of the same bytes, in order: a row may have what an earlier one wrote. After an error the bytes are not known;
+/// they are as many as before.
 pub fn move_rows(bytes: &mut Bytes, copy: Rows) -> Result<(), WantMemory>
     requires to { AreWithin (length bytes.old) copy.to_offset copy.to_step copy.length copy.rows }
     requires from { AreWithin (length bytes.old) copy.from_offset copy.from_step copy.length copy.rows }

@@ -22,16 +22,19 @@ pub record Image : Type 0 where
   pub caption : Caption
   pub pixels : List ℕ
 
+-- an image that was shown
 abbrev pub of_shown : Shown → Image
 of_shown s = record { caption = s.caption; pixels = s.pixels }
 
+-- an image whose digest is being found
 abbrev pub of_begun : Begun → Image
 of_begun b = record { caption = b.caption; pixels = b.hashing.pixels.value }
 
--- images that are shown, and such whose digests are being found
+-- images that were shown
 abbrev pub newer : List Shown → List Image
 newer ss = map of_shown ss
 
+-- images whose digests are being found
 abbrev pub older : List Begun → List Image
 older bs = map of_begun bs
 
@@ -43,6 +46,7 @@ images k = older k.begun.items ++ newer k.shown.items
 abbrev pub image_line : Image → List ℕ
 image_line i = digest_line (string_bytes i.caption.title) i.caption.shown (hex_text (sha256 i.pixels))
 
+-- the lines of images, one after another
 abbrev pub lines_of : List Image → List ℕ
 lines_of is = flat_map image_line is
 

@@ -51,19 +51,22 @@ past at size begins ends = record {
   outside = if at.in_section || begins then at.outside else at.outside + 1;
 }
 
--- what a block says begins the section, or ends it
+-- the event begins the section
 abbrev pub event_begins : Event → Bool
 event_begins (BeginSection frame) = true
 event_begins _ = false
 
+-- the event ends the section
 abbrev pub event_ends : Event → Bool
 event_ends (EndSection frame) = true
 event_ends _ = false
 
+-- what a block says begins the section
 abbrev pub says_begin : Content → Bool
 says_begin skipped = false
 says_begin (effect thread event) = event_begins event
 
+-- what a block says ends the section
 abbrev pub says_end : Content → Bool
 says_end skipped = false
 says_end (effect thread event) = event_ends event
@@ -114,6 +117,7 @@ abbrev pub HaveRoom : Position → List Part → Type 0
 HaveRoom at [] = Unit {0}
 HaveRoom at (p ∷ ps) = (side_count at p.bytes < max_side_blocks) × HaveRoom (next_position at p.bytes) ps
 
+-- whole blocks, and behind them the others with their end
 abbrev pub with_items : List Whole → Blocks → Blocks
 with_items ws rest = record { items = ws ++ rest.items; end = rest.end }
 

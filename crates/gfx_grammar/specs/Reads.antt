@@ -26,9 +26,10 @@ pub record Reads {X : Type 0} (r : Reader X) (fields : X → List Field) : Type 
   pub takes : (bytes : List ℕ) (x : X) (rest : List ℕ) → AreBytes bytes → r bytes ≡ Some (x, rest) → Takes bytes (text_of (fields x)) rest × Fits (fields x)
   pub again : (x : X) (rest : List ℕ) → Fits (fields x) → r (text_of (fields x) ++ rest) ≡ Some (x, rest)
 
--- a value that is one field
+-- a number of eight bytes as one field
 abbrev pub u64_fields : ℕ → List Field
 u64_fields n = u64 n ∷ []
 
+-- bytes as one field
 abbrev pub raw_fields : List ℕ → List Field
 raw_fields bytes = raw bytes ∷ []

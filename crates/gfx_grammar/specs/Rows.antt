@@ -17,31 +17,39 @@ exactly build r bytes = r bytes >>= λ x. if_none_left (build x.0) x.1
 abbrev pub with1 : {A : Type 0} → (A → Event) → A → Event
 with1 f x = f x
 
+-- the same of two fields
 abbrev pub with2 : {A B : Type 0} → (A → B → Event) → A × B → Event
 with2 f x = f x.0 x.1
 
+-- the same of three fields
 abbrev pub with3 : {A B C : Type 0} → (A → B → C → Event) → A × (B × C) → Event
 with3 f x = f x.0 x.1.0 x.1.1
 
+-- the same of four fields
 abbrev pub with4 : {A B C D : Type 0} → (A → B → C → D → Event) → A × (B × (C × D)) → Event
 with4 f x = f x.0 x.1.0 x.1.1.0 x.1.1.1
 
+-- the same of five fields
 abbrev pub with5 : {A B C D E : Type 0} → (A → B → C → D → E → Event) → A × (B × (C × (D × E))) → Event
 with5 f x = f x.0 x.1.0 x.1.1.0 x.1.1.1.0 x.1.1.1.1
 
+-- the same of six fields
 abbrev pub with6 : {A B C D E F : Type 0} → (A → B → C → D → E → F → Event) → A × (B × (C × (D × (E × F)))) → Event
 with6 f x = f x.0 x.1.0 x.1.1.0 x.1.1.1.0 x.1.1.1.1.0 x.1.1.1.1.1
 
+-- the same of seven fields
 abbrev pub with7 : {A B C D E F G : Type 0} → (A → B → C → D → E → F → G → Event) → A × (B × (C × (D × (E × (F × G))))) → Event
 with7 f x = f x.0 x.1.0 x.1.1.0 x.1.1.1.0 x.1.1.1.1.0 x.1.1.1.1.1.0 x.1.1.1.1.1.1
 
+-- the same of eight fields
 abbrev pub with8 : {A B C D E F G H : Type 0} → (A → B → C → D → E → F → G → H → Event) → A × (B × (C × (D × (E × (F × (G × H)))))) → Event
 with8 f x = f x.0 x.1.0 x.1.1.0 x.1.1.1.0 x.1.1.1.1.0 x.1.1.1.1.1.0 x.1.1.1.1.1.1.0 x.1.1.1.1.1.1.1
 
--- version 1 presents one image, and version 2 a list
+-- a present of one image
 abbrev pub with_one_present : ℕ × (List ℕ × Present) → Event
 with_one_present x = Event.QueuePresentKHR x.0 x.1.0 (x.1.1 ∷ [])
 
+-- version 1 presents one image, and version 2 a list
 unfoldable pub present_row : ℕ → List ℕ → Option Event
 present_row m bytes =
     if m == 1 then exactly with_one_present (read_id ⊗ read_ids ⊗ read_present) bytes
@@ -56,6 +64,7 @@ unfoldable pub by_row : Rows → ℕ → List ℕ → Option Event
 by_row [] n bytes = None
 by_row (row ∷ rows) n bytes = if row.0 == n then row.1 bytes else by_row rows n bytes
 
+-- the calls
 abbrev pub calls : ℕ → Rows
 calls m =
     (1, exactly (with2 Event.CreateInstance) (read_id ⊗ read_u32))
@@ -108,6 +117,7 @@ calls m =
     ∷ (48, present_row m)
     ∷ []
 
+-- the metadata
 abbrev pub metas : Rows
 metas =
     (2, exactly (with3 Event.FillMemory) (read_id ⊗ read_u64 ⊗ read_raw))
@@ -116,6 +126,7 @@ metas =
     ∷ (5, exactly (with2 Event.SetSemaphoreState) (read_id ⊗ read_u32))
     ∷ []
 
+-- the markers of the state section
 abbrev pub markers : Rows
 markers =
     (1, exactly (with1 Event.BeginSection) read_u64)
@@ -130,9 +141,11 @@ rows_of m kind = if kind == 4 then calls m else if kind == 3 then metas else if 
 unfoldable pub read_event : (minor kind number : ℕ) → List ℕ → Option Event
 read_event m kind n bytes = by_row (rows_of m kind) n bytes
 
+-- the call of this number whose fields the bytes are
 abbrev pub read_call : (minor id : ℕ) → List ℕ → Option Event
 read_call m n bytes = read_event m 4 n bytes
 
+-- the metadata of this number whose fields the bytes are
 abbrev pub read_meta : (minor id : ℕ) → List ℕ → Option Event
 read_meta m n bytes = read_event m 3 n bytes
 

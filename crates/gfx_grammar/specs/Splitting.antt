@@ -46,9 +46,11 @@ pub record Blocks : Type 0 where
   pub items : List Whole
   pub end : End
 
+-- no block, and this end
 abbrev pub only_end : End → Blocks
 only_end end = record { items = []; end = end }
 
+-- a whole block, and behind it the others with their end
 abbrev pub with_item : Whole → Blocks → Blocks
 with_item w rest = record { items = w ∷ rest.items; end = rest.end }
 

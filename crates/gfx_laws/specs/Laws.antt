@@ -133,6 +133,7 @@ pub record FillsGive (f : ℕ → ℕ) (n : ℕ) : Type 0 where
   pub spans : AllByRecursion (IsSpanBelow n) (fills_of f n)
   pub bytes : (at : Place) (es : List Change) (i : ℕ) → i < n → byte es at i ≡ 0 → byte (filled at f (fills_of f n) es) at i ≡ f i
 
+-- the fills of any bytes are spans of them, and written over zeros they give the bytes back
 abbrev pub FillsGiveBytes : Type 0
 FillsGiveBytes = (f : ℕ → ℕ) (n : ℕ) → FillsGive f n
 
@@ -181,6 +182,7 @@ pub record IsTold (h es : List Event) : Type 0 where
   pub valid : is_valid h ≡ true → GoOn (view h) es → is_valid (onto es h) ≡ true
   pub go_on : is_valid (onto es h) ≡ true → GoOn (view h) es
 
+-- what comes of events behind any history is told from the answers after it
 abbrev pub ToldByAnswers : Type 0
 ToldByAnswers = (h es : List Event) → IsTold h es
 

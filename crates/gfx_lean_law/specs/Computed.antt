@@ -43,6 +43,7 @@ pub record ByList (v : View) (range : List Event) : Type 0 where
   pub all : (id : ℕ → Bool) → ((x : ℕ) → IsTrue (is_some (v.live x)) → Contains (named_in range) x → IsTrue (id x)) →
       ((x y : ℕ) → IsTrue (id x) → Contains (stands_on v x) y → IsTrue (id y)) → AreMarked v range id
 
+-- marks that grow by what a marked id stands on are just what is needed
 abbrev pub NeededByList : Type 0
 NeededByList = (v : View) (range : List Event) → ByList v range
 

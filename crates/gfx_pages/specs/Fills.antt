@@ -28,5 +28,6 @@ pub record FillsGive (bytes : List ℕ) : Type 0 where
   pub spans : All (IsSpanBelow (length bytes)) (fills bytes)
   pub same : refilled bytes (fills bytes) (replicate (length bytes) 0) ≡ bytes
 
+-- the fills of any bytes lie within them and, written over zeros, give them back
 abbrev pub FillsGiveBytes : Type 0
 FillsGiveBytes = (bytes : List ℕ) → FillsGive bytes

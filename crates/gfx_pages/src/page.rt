@@ -10,7 +10,7 @@ use crate::shared::{clear, move_within, put, zeros_around};
 use std::alloc::Global;
 use std::sync::Arc;
 
-// An absent page was never written: it reads as zeros, and has only its size. A kept page may have several owners.
+/// A page of bytes. An absent one reads as zeros, and has only its size in bytes. A kept one may have several owners.
 #[derive(Drop)]
 pub enum Page {
     Absent(usize),
@@ -28,6 +28,7 @@ impl Page {
         }
     }
 
+    /// Reads the bytes from `offset` on. Takes no memory.
     pub fn read_into(&self, offset: usize, into: &mut [u8])
         requires { offset + length into.old ≤ length (page_bytes self.now) }
         ensures { into.new ≡ take (length into.old) (drop offset (page_bytes self.now)) }
@@ -41,7 +42,7 @@ impl Page {
         }
     }
 
-    // From the first byte that is not zero to the last.
+    /// From the first byte that is not zero to the last, None where all are zero.
     pub fn used(&self) -> Option<Used>
         ensures { MatchOption result (IsZero (page_bytes self.now)) (λ used. IsUsed (page_bytes self.now) used.from used.end) }
     {
@@ -51,7 +52,7 @@ impl Page {
         }
     }
 
-    // Another owner of the same bytes.
+    /// Another owner of the same bytes.
     pub fn share(&self) -> Result<Page, WantMemory>
         ensures { IfOk result (λ page. page_bytes page ≡ page_bytes self.now) }
     {
@@ -61,7 +62,7 @@ impl Page {
         }
     }
 
-    // Puts `part` at `offset`.
+    /// Puts `part` at `offset`. After an error the bytes are as they were.
     pub fn write(&mut self, alloc: Global, offset: usize, part: &[u8]) -> Result<(), WantMemory>
         requires { offset + length part.now ≤ length (page_bytes self.old) }
         ensures ok { OnOk result (page_bytes self.new ≡ paste (page_bytes self.old) offset part.now (length part.now)) }
@@ -77,7 +78,8 @@ impl Page {
         }
     }
 
-    // Puts `count` zeros at `offset`. An absent page stays absent, and a page of zeros alone becomes absent.
+    /// Puts `count` zeros at `offset`. An absent page stays absent, and a page that is cleared whole becomes absent. After an
+    /// error the bytes are as they were.
     pub fn clear(&mut self, alloc: Global, offset: usize, count: usize) -> Result<(), WantMemory>
         requires { offset + count ≤ length (page_bytes self.old) }
         ensures ok { OnOk result (page_bytes self.new ≡ paste (page_bytes self.old) offset (replicate count 0) count) }
@@ -93,7 +95,8 @@ impl Page {
         }
     }
 
-    // Puts `count` bytes of `source`, from `from` on, at `offset`. A page that is copied whole is shared.
+    /// Puts `count` bytes of `source`, from `from` on, at `offset`. A page that is copied whole over another is shared. After an
+    /// error the bytes are as they were.
     pub fn copy(
         &mut self,
         alloc: Global,
@@ -117,7 +120,7 @@ impl Page {
         }
     }
 
-    // Puts the `count` bytes from `from` on at `offset`; the two ranges may overlap.
+    /// Puts the `count` bytes from `from` on at `offset`; the two ranges may overlap. After an error the bytes are as they were.
     pub fn copy_within(
         &mut self,
         alloc: Global,

@@ -5,14 +5,14 @@ ghost use Rattle.gfx_pages.specs.Used.{IsZero, IsUsed};
 // The bytes that are asked at once whether they are all zero.
 const BLOCK: usize = 256;
 
-// Of some bytes, those from `from` to below `end`.
+/// Of some bytes, those from `from` to below `end`.
 #[derive(Clone, Copy)]
 pub struct Used {
     pub from: usize,
     pub end: usize,
 }
 
-// From the first byte that is not zero to the last.
+/// From the first byte that is not zero to the last, None where all are zero.
 pub fn used_part(bytes: &[u8]) -> Option<Used>
     ensures { MatchOption result (IsZero bytes.now) (λ used. IsUsed bytes.now used.from used.end) }
 {

@@ -6,7 +6,7 @@ use crate::error::WantMemory;
 use std::alloc::Global;
 use std::sync::Arc;
 
-// Puts `part` at `offset`.
+/// Puts `part` at `offset`. After an error the bytes are as they were.
 pub fn put(
     alloc: Global,
     shared: &mut Arc<Vec<u8>>,
@@ -23,7 +23,7 @@ pub fn put(
     Ok(())
 }
 
-// Puts `count` zeros at `offset`.
+/// Puts `count` zeros at `offset`. After an error the bytes are as they were.
 pub fn clear(
     alloc: Global,
     shared: &mut Arc<Vec<u8>>,
@@ -40,7 +40,7 @@ pub fn clear(
     Ok(())
 }
 
-// Puts the `count` bytes from `from` on at `offset`; the two ranges may overlap.
+/// Puts the `count` bytes from `from` on at `offset`; the two ranges may overlap. After an error the bytes are as they were.
 pub fn move_within(
     alloc: Global,
     shared: &mut Arc<Vec<u8>>,
@@ -59,7 +59,7 @@ pub fn move_within(
     Ok(())
 }
 
-// Bytes of a page that is kept from now on: zeros but for `part` at `offset`.
+/// The `size` bytes of a page that is kept from now on: zeros but for `part` at `offset`.
 pub fn zeros_around(
     alloc: Global,
     size: usize,

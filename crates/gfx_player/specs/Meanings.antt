@@ -26,10 +26,11 @@ abbrev pub first_of : List Frame → Option ℕ
 first_of [] = None
 first_of (f ∷ fs) = Some f.number
 
--- the numbers of the first and the last frame of a history; where it shows none, the last is one below the first
+-- the number of the first frame of a history, that of the next frame where it shows none
 abbrev pub first_in : List Event → ℕ
 first_in h = unwrap_or (first_of (frames h)) (view h).next_frame
 
+-- the number of the last frame of a history, one below the first where it shows none
 abbrev pub last_in : List Event → ℕ
 last_in h = (view h).next_frame - 1
 

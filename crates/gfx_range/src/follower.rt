@@ -36,7 +36,8 @@ impl Follower {
         }
     }
 
-    /// Takes what a block says and appends its operations. Answers the number of the frame that it shows, if it shows one.
+    /// Takes what a block says and appends its operations. Answers the number of the frame that it shows, if it shows one. After
+    /// an error the follower and the list are as they were.
     pub fn follow(&mut self, raw: &Raw<'_>, ops: &mut OpList) -> Result<Option<u64>, PlayFault>
         ensures ok { IfOk result (λ number. (h : List Event) → Follows self.old h → Followed self.new h (item_of raw.now).content number) }
         ensures fine { OnOk result (broken_by (answers self.old.tracker) (content_of raw.now.block) ≡ None) }

@@ -48,7 +48,7 @@ impl Range {
         }
     }
 
-    /// Keeps a block that is skipped.
+    /// Keeps a block that is skipped. For want of memory the range is as it was.
     pub fn keep(&mut self, raw: &Raw<'_>) -> Result<(), PlayFault>
         ensures bytes { OnOk result (self.new.blocks.items ≡ self.old.blocks.items ++ raw.now.bytes.now) }
         ensures same { IsSameNeed self.old self.new }
@@ -67,7 +67,8 @@ impl Range {
     }
 
     /// Takes the next block of the range, behind what the follower follows, where the boundary's tracker stands for what was
-    /// before the range. Answers the number of the frame that the block shows, if it shows one.
+    /// before the range. Answers the number of the frame that the block shows, if it shows one. After an error the range is of no
+    /// use, and after want of memory neither is the follower.
     pub fn add(
         &mut self,
         alloc: Global,

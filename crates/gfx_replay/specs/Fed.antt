@@ -21,6 +21,7 @@ abbrev pub rule_of : FeedFault → Option Fault
 rule_of (Rule fault) = Some fault
 rule_of WantMemory = None
 
+-- the rule fault of the answer to a block, where it has one
 abbrev pub rule_in : Result (Option ShownFrame) FeedFault → Option Fault
 rule_in (Ok shown) = None
 rule_in (Err fault) = rule_of fault

@@ -12,6 +12,7 @@ use Rattle.gfx_replay.specs.declared.places.Places.{Places}
 abbrev pub through : (Place → Option Handle) → (Handle → Option (List ℕ)) → Bytes
 through handles bytes at = option_and_then bytes (handles at)
 
+-- the bytes of each place of a replay
 abbrev pub bytes_in : Places → Bytes
 bytes_in p = through (handle_of p.ids) (places p.device)
 

@@ -13,6 +13,7 @@ use Rattle.gfx_replay.specs.Held.{Bytes}
 abbrev pub Sizes : Type 0
 Sizes = Place → Option ℕ
 
+-- the sizes of places that have these bytes
 abbrev pub sizes_of : Bytes → Sizes
 sizes_of b at = option_map length (b at)
 

@@ -114,7 +114,8 @@ impl Places {
         }
     }
 
-    /// Carries out operations in order.
+    /// Carries out operations in order. `given` is what a `PutGiven` puts. After want of memory only the bytes of the places that
+    /// they change are not known.
     pub fn run_all(&mut self, ops: &OpList, given: &[u8]) -> Result<(), WantMemory>
         requires { AreAllWithin (sizes_in self.old) given.now ops.now }
         ensures ok { OnOk result (HoldsMore (flat_map (changes_of_op given.now) ops.now) (bytes_in self.old) (bytes_in self.new)) }

@@ -151,7 +151,8 @@ pub trait Answers {
         ensures { result ≡ (view self.now).section };
 
     /// The first place of a call, as a submit and a place among its command buffers, at which a command buffer does not
-    /// meet its layouts after all that the call executes before it.
+    /// meet its layouts after all that the call executes before it. It may take memory for a table, and does without where there
+    /// is none.
     fn differs_at(&self, submits: &Submits) -> Option<(u32, u32)>
         requires { AreFew submits.now }
         ensures { IsFirstDiffering (view self.now) submits.now result };

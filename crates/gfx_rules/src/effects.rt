@@ -28,7 +28,8 @@ fn row_fault<A: Answers>(answers: &A, effect: &Effect<'_>) -> Option<Fault>
     }
 }
 
-/// The fault of the first check that an effect breaks, None where it breaks none. Takes no memory.
+/// The fault of the first check that an effect breaks, None where it breaks none. Takes no memory of its own; the answers may
+/// take some for a table, where the layouts of a submit are checked.
 pub fn fault_of<A: Answers>(answers: &A, effect: &Effect<'_>) -> Option<Fault>
     ensures { result ≡ words.first_broken (A.view answers.now) (checks_of (event_of effect.now)) }
 {

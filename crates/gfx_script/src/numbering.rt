@@ -126,7 +126,7 @@ fn renumber<'c>(
     }
 }
 
-// The write with this id in place of its own.
+/// The write with this id in place of its own.
 #[tactic(auto, unfolding(gfx_model::specs::Spelling::type_of, gfx_script_model::specs::Ids::uses_of, gfx_script_model::specs::Ids::defines_of, gfx_script_model::specs::Ids::map_ids))]
 pub(crate) fn with_memory<'c>(write: &Meta<'c>, named: &[u64]) -> Meta<'c>
     requires written { IsTrue (may_be_written (event_of_meta write.now)) }

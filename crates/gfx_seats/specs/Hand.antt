@@ -25,6 +25,7 @@ module _ {E : Type 0} where
 
   -- ---- how a hand changes
 
+  -- it stands so with its turn
   abbrev pub with_stage : Hand E → Stage → Hand E
   with_stage h stage = record h { stage = stage }
 
@@ -32,6 +33,7 @@ module _ {E : Type 0} where
   abbrev pub with_id : Hand E → ℕ → Hand E
   with_id h x = record h { drawn = h.drawn ++ x ∷ [] }
 
+  -- it knows that the history has this length at least
   abbrev pub with_known : Hand E → ℕ → Hand E
   with_known h n = record h { known = n }
 
@@ -43,6 +45,7 @@ module _ {E : Type 0} where
   abbrev pub at_turn : Hand E → List E → Hand E
   at_turn h log = record h { stage = HasTurn; seen = log; known = length log }
 
+  -- the second of two histories where the test holds, and the first where it does not
   abbrev pub pick : Bool → List E → List E → List E
   pick true xs ys = ys
   pick false xs ys = xs
@@ -83,23 +86,30 @@ module _ {E : Type 0} (thread_of : E → ℕ) (ids_of : E → List ℕ) where
 module _ {E : Type 0} where
   -- ---- what is counted of a hand
 
+  -- how often it drew the id x
   abbrev pub drawn_times : ℕ → Hand E → ℕ
   drawn_times x h = times x h.drawn
 
+  -- how many ids it drew
   abbrev pub drawn_in : Hand E → ℕ
   drawn_in h = length h.drawn
 
+  -- 1 where there is a thread, and it is t
   abbrev pub thread_times : ℕ → Hand E → ℕ
   thread_times t h = times t (threads_of h.stage h.thread)
 
+  -- 1 where there is a thread
   abbrev pub seats_in : Hand E → ℕ
   seats_in h = seat_count h.stage
 
+  -- 1 where it waits with the ticket k
   abbrev pub ticket_times : ℕ → Hand E → ℕ
   ticket_times k h = times k (tickets_of h.stage)
 
+  -- 1 where it waits
   abbrev pub tickets_in : Hand E → ℕ
   tickets_in h = length (tickets_of h.stage)
 
+  -- 1 where it has the turn
   abbrev pub turns_in : Hand E → ℕ
   turns_in h = turn_count h.stage

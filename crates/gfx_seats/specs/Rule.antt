@@ -45,12 +45,14 @@ module _ {E : Type 0} (thread_of : E → ℕ) (ids_of : E → List ℕ) (log : L
     pub few : length h.drawn ≤ 2 ^ 32 * seat_count h.stage
     pub here : seat_count h.stage ≡ 1 → Fits h
 
+  -- what a note says is true of the history
   pub record NoteFits (n : Note E) : Type 0 where
     pub kind_is : n.kind ≡ kind
     pub seen : IsPrefix n.seen log
     pub low : length n.seen ≤ n.known
     pub high : n.known ≤ length log
 
+  -- what a token knows of all its threads, and what its notes say, is true of the history
   pub record ViewFits (v : View E) : Type 0 where
     pub hand : HandFits v.hand
     pub others : Each HandFits v.others

@@ -19,6 +19,7 @@ module _ {V : Type 0} where
   taken (x ∷ xs) = x.1
 
 module _ {V E : Type 0} where
+  -- the token with this hand
   abbrev pub with_me : Me (Option V) (View E) → Hand E → Me (Option V) (View E)
   with_me m h = (with_hand m.0 h, m.1)
 
@@ -32,15 +33,19 @@ module _ {V E : Type 0} (entries : V → List E) (kind_of : V → ℕ) where
     pub kind_is : ForSome (taken m.1) (λ v. kind_of v ≡ m.0.hand.kind)
 
 module _ {V E : Type 0} (entries : V → List E) (thread_of : E → ℕ) (ids_of : E → List ℕ) (kind_of : V → ℕ) where
+  -- a token: what it knows, and the slots that it has
   abbrev M : Type 0
   M = Me (Option V) (View E)
 
+  -- it drew an id above 0 that it had not drawn before, and of its ids its history creates what it made itself and no more
   abbrev pub drew : Step (Option V) → M → ℕ → M → Type 0
   drew st m r m' = (1 ≤ r) × (times r m.0.hand.drawn ≡ 0) × (m' ≡ with_me m (with_id m.0.hand r)) × CreatesAlone ids_of m'.0.hand
 
+  -- it knows the length that it read, which is at least the one that it knew and that of what it has seen
   abbrev pub read_length : Step (Option V) → M → ℕ → M → Type 0
   read_length st m r m' = (m.0.hand.known ≤ r) × (length m.0.hand.seen ≤ r) × (m' ≡ with_me m (with_known m.0.hand r))
 
+  -- it waits with a ticket, and what it read is the number of the ticket modulo 2^64
   abbrev pub took_ticket : Step (Option V) → M → ℕ → M → Type 0
   took_ticket st m r m' = (k : ℕ) × (r ≡ k % 2 ^ 64) × (m' ≡ with_me m (with_stage m.0.hand (Waits k)))
 
@@ -60,12 +65,15 @@ module _ {V E : Type 0} (entries : V → List E) (thread_of : E → ℕ) (ids_of
     pub own : HasAllOwn thread_of m'.0.hand
     pub alone : CreatesAlone ids_of m'.0.hand
 
+  -- it is served where what it read is the number of its ticket modulo 2^64, and otherwise nothing happened
   abbrev pub looked : Step (Option V) → M → ℕ → M → Type 0
   looked st m r m' = (k : ℕ) → m.0.hand.stage ≡ Waits k → (r ≡ k % 2 ^ 64 → Served m m') × (r ≢ k % 2 ^ 64 → m' ≡ m)
 
+  -- its thread brought the history to the entries of the value in its slot, which create of its ids what it made itself and no more
   abbrev pub counted : Step (Option V) → M → ℕ → M → Type 0
   counted st m r m' = (v : V) → m.1 ≡ (0, Some v) ∷ [] → (m' ≡ with_me m (grown_hand thread_of m.0.hand (entries v))) × CreatesAlone ids_of m'.0.hand
 
+  -- it gave the slot back, and its turn ended
   abbrev pub left_turn : Step (Option V) → M → ℕ → M → Type 0
   left_turn st m r m' = m' ≡ (with_hand m.0 (with_stage m.0.hand Idle), rest m.1)
 
@@ -78,5 +86,6 @@ module _ {V E : Type 0} (entries : V → List E) (thread_of : E → ℕ) (ids_of
     pub own : HasAllOwn thread_of m'.0.hand
     pub alone : CreatesAlone ids_of m'.0.hand
 
+  -- it learnt what the one note says that it had taken in
   abbrev pub learnt : Step (Option V) → M → ℕ → M → Type 0
   learnt st m r m' = (n : Note E) → m.0.notes ≡ n ∷ [] → Learnt m n m'

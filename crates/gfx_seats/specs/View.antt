@@ -6,6 +6,7 @@ use Rattle.gfx_seats.specs.Entries.{total}
 use Rattle.gfx_seats.specs.Hand.{fresh, fresh_from, nobody, note_of}
 
 module _ {E : Type 0} where
+  -- the view with this hand
   abbrev pub with_hand : View E → Hand E → View E
   with_hand v h = record v { hand = h }
 
@@ -29,25 +30,30 @@ module _ {E : Type 0} where
   abbrev pub gathered : View E → View E → View E
   gathered v w = record { hand = w.hand; others = w.others ++ v.hand ∷ v.others; notes = v.notes ++ w.notes }
 
+  -- the first of some hands, and nobody where there is none
   abbrev pub first_hand : List (Hand E) → Hand E
   first_hand [] = nobody
   first_hand (h ∷ hs) = h
 
+  -- the hands behind the first
   abbrev pub later_hands : List (Hand E) → List (Hand E)
   later_hands [] = []
   later_hands (h ∷ hs) = hs
 
-  -- the first of the other threads gets a token of its own
+  -- what is left of the view where the first of the other threads gets a token of its own
   abbrev pub staying : View E → View E
   staying v = record v { others = later_hands v.others }
 
+  -- the token that this thread gets
   abbrev pub parting : View E → View E
   parting v = record { hand = first_hand v.others; others = []; notes = [] }
 
   -- ---- what is counted
 
+  -- the sum of f over all threads of a token
   abbrev pub over : (Hand E → ℕ) → View E → ℕ
   over f v = f v.hand + total f v.others
 
+  -- the sum of f over all threads of these tokens
   abbrev pub overall : (Hand E → ℕ) → List (View E) → ℕ
   overall f vs = total (over f) vs

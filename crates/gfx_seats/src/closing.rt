@@ -23,6 +23,7 @@ fn token_of<V: Grows>(seat: Seat<V>) -> Token<V>
     token
 }
 
+/// Whether one of the seats has a turn.
 pub(crate) fn any_turn<V: Grows>(seats: &[Seat<V>]) -> bool
     ensures { result ≡ list_any (λ s. s.has_turn) seats.now }
 {

@@ -23,6 +23,7 @@ fn one_slot<V: Drop>(alloc: Global, value: V) -> Result<Vec<Option<V>>, AllocErr
     Ok(slots)
 }
 
+/// The table of a desk with this value, and its first token, which has the threads of all seats.
 pub(crate) fn lay_out<V: Grows + Drop>(
     alloc: Global,
     value: V,

@@ -13,9 +13,11 @@ use Rattle.gfx_model.specs.Table.{is_positive, is_layout, divides}
 use Rattle.gfx_model.specs.Covers.{is_fetched}
 use Rattle.gfx_laws.specs.Lawful.{base, HasImage, IsCommandOf, IsRising, is_image, has_signal}
 
+-- parameters that an image may have, but for the limits on its extent
 abbrev pub is_sound_image : ℕ → ℕ → ℕ → ℕ → Bool
 is_sound_image format width height usage = is_some (format_of format) && is_positive width && is_positive height && is_positive usage
 
+-- parameters that a swapchain may have, but for the limits on its images and their extent
 abbrev pub is_sound_chain : ℕ → ℕ → ℕ → ℕ → ℕ → Bool
 is_sound_chain images format width height usage =
     is_positive images && is_positive width && is_positive height && is_positive usage && is_some (format_of format)
@@ -54,6 +56,7 @@ pub record IsBound (v : View) (o : Object) (b : Binding) : Type 0 where
   pub near : parent_of v b.memory ≡ o.parent
   pub inside : b.offset + detail_size o.detail ≤ size_of v b.memory
 
+-- a command buffer is live, its flags are such as a begin may have, and its commands are its own and break none of their checks
 pub record IsKept (v : View) (cb : ℕ) (b : Buffer) : Type 0 where
   pub is_buffer : is_live v kind.CommandBuffer cb ≡ true
   pub flags : is_among b.flags (0 ∷ 1 ∷ 4 ∷ 5 ∷ []) ≡ true
@@ -65,6 +68,7 @@ IsImage v swapchain k x =
     (format : ℕ) × (width : ℕ) × (height : ℕ) × (usage : ℕ)
     × (v.live x ≡ Some (record { parent = swapchain; detail = an_image format width height usage (Some k) }))
 
+-- what the section needs of the answers
 pub record IsOrderly (v : View) : Type 0 where
   pub rising : IsRising v.ids
   pub listed : (x : ℕ) → is_among x v.ids ≡ is_some (v.live x)

@@ -6,6 +6,7 @@ use Rattle.gfx_model.specs.Events.Event.{UnmapMemory, QueueSubmit, FillMemory, D
 use Rattle.gfx_shadow.specs.Writes.{write_of, fills, held_byte, runs, firsts, reach}
 use Rattle.gfx_shadow.specs.Gathered.{gathered, gathered_after}
 
+-- the line with this number
 abbrev line : ℕ → Event → Line
 line number event = record { number = number; event = event }
 

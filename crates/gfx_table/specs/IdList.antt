@@ -6,11 +6,13 @@ use Rattle.std.specs.FinMap as map
 use Rattle.std.specs.FinMap.{FinMap}
 use Rattle.gfx_table.specs.Dense.{StandApart}
 
+-- ids one after another, and room for more
 pub record Ids : Type 0 where
   pub items : List ℕ
   -- how many new ids there is room for
   pub spare : ℕ
 
+-- how the logic stores it, as its fields in a row
 abbrev pub ids_code : Coded Ids
 ids_code = code_by (List ℕ × ℕ) (coded× (coded_list coded_ℕ) coded_ℕ) (λ s. (s.items, s.spare)) (λ p. record { items = p.0; spare = p.1 }) (λ _. refl)
 

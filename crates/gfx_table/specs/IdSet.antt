@@ -4,6 +4,7 @@ use Rattle.std.specs.Int.{bit_at}
 use Rattle.std.specs.FinMap as map
 use Rattle.gfx_table.specs.Slots.{Slots}
 
+-- there is a word, and its bit at this place is 1
 abbrev pub has_bit : Option ℕ → ℕ → Bool
 has_bit None place = false
 has_bit (Some word) place = bit_at word place == 1

@@ -32,6 +32,7 @@ total weigh m = sum_by (λ e. weigh e.0 e.1) (entries m)
 abbrev pub weight : {X : Type 0} → (ℕ → X → ℕ) → FinMap nat_cmp X → ℕ → ℕ
 weight weigh m id = option_map_or (weigh id) (map.get m id) 0
 
+-- where no id above the given one is found, there is none above it
 end_list : (ks : List ℕ) (after : ℕ) → find (λ id. nat_lt after id) ks ≡ None → filter (λ id. nat_lt after id) ks ≡ []
 end_list [] after none = refl
 end_list (k ∷ ks) after none = let rest = end_list ks after in grind (arith, nat_tests, rest)
@@ -106,6 +107,7 @@ module _ {X : Type 0} where
 
   -- ---- each entry is what a look-up finds
 
+  -- each entry is what a look-up of its id finds
   abbrev Looks : (ℕ → Option X) → List (ℕ × X) → Type 0
   Looks look [] = Unit {0}
   Looks look (e ∷ es) = (look e.0 ≡ Some e.1) × Looks look es
@@ -207,6 +209,7 @@ module _ {X : Type 0} where
 
   -- ---- the ids above a given one
 
+  -- the ids above the given one, rising
   abbrev pub ids_above : ℕ → FinMap nat_cmp X → List ℕ
   ids_above after m = filter (λ id. nat_lt after id) (ids m)
 

@@ -84,7 +84,7 @@ fn keep(room: &mut Vec<u8>, bytes: Vec<u8>) -> &[u8]
 }
 
 /// The call of this name whose fields these are. Bad exactly where they are the fields of none. The bytes of a call
-/// are kept in `room`.
+/// are kept in `room`; after an error that is as it was.
 #[tactic(auto, unfolding(gfx_text_grammar::specs::Rows::read_event))]
 pub fn read_call<'a, I: ReadId>(
     alloc: Global,
@@ -277,7 +277,7 @@ fn one_present(alloc: Global, swapchain: u64, index: u32) -> Result<Presents, Al
 }
 
 /// The metadata of this name whose fields these are. Bad exactly where they are the fields of none. Its bytes are kept
-/// in `room`.
+/// in `room`; after an error that is as it was.
 #[tactic(auto, unfolding(gfx_text_grammar::specs::Rows::read_event))]
 pub fn read_meta<'a, I: ReadId>(
     alloc: Global,

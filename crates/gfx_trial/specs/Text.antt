@@ -11,10 +11,11 @@ use Rattle.gfx_make.specs.Made.{made}
 use Rattle.gfx_trial.specs.declared.trial.Trial.{Trial}
 use Rattle.gfx_trial.specs.Files.{digested}
 
--- the first and the last frame of the middle third of n frames
+-- the first frame of the middle third of n frames
 abbrev pub middle_first : ℕ → ℕ
 middle_first n = n / 3
 
+-- the last frame of the middle third of n frames
 abbrev pub middle_last : ℕ → ℕ
 middle_last n = 2 * n / 3
 
@@ -26,6 +27,7 @@ middle n = frames_from (middle_first n) (frames_to (middle_last n) (frames (onto
 unfoldable pub middle_digested : ℕ → Digested
 middle_digested n = digested (middle_first n) (middle_last n) (middle n)
 
+-- the end of a line
 abbrev pub line_feed : List ℕ
 line_feed = 10 ∷ []
 
