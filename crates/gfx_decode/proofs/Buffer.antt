@@ -4,15 +4,14 @@ use Rattle.std.proofs.lemmas.List.{take-append-le, take-take}
 use Rattle.gfx_io.proofs.Parts.{take-put_mid_part}
 use borrow.Rule.Slice.PartMut.{put_mid, post_of}
 
--- what was held stays at the front of what was made longer
-pub front_kept : (held old zeros : List ℕ) (size : ℕ) → length held ≤ size → old ≡ take size held ++ zeros → take (length held) old ≡ held
-front_kept held old zeros size fits made =
-    ap (take (length held)) (made ∙ ap (λ (xs : List ℕ). xs ++ zeros) (take_all size held fits))
-    ∙ take-append-le (length held) held zeros (omega arith) ∙ take_all (length held) held (omega arith)
+-- the front of what was held stays in what was made longer
+pub front_kept : (held old zeros : List ℕ) (front size : ℕ) → front ≤ length held → length held ≤ size → old ≡ take size held ++ zeros → take front old ≡ take front held
+front_kept held old zeros front size within fits made =
+    ap (take front) (made ∙ ap (λ (xs : List ℕ). xs ++ zeros) (take_all size held fits)) ∙ take-append-le front held zeros within
 
 -- the first `count` bytes of the piece `new` were kept
 pub piece_behind : (held old new after : List ℕ) (front k len count : ℕ) → take front old ≡ held → front ≤ length old → count ≤ length new
-    → front + length new ≡ len → take (front + count) (take len (put_mid front k old new ++ after)) ≡ held ++ take count new
+    → front + length new ≤ len → take (front + count) (take len (put_mid front k old new ++ after)) ≡ held ++ take count new
 piece_behind held old new after front k len count is there some long =
     let back = post_of front k old in
     let room : length (put_mid front k old new) ≡ front + (length new + length back) =

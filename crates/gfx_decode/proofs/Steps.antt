@@ -51,6 +51,12 @@ some_room at is = by (nat_le (2 ^ 32) (side at false)) (nat_le (2 ^ 32) (side at
     by true false outside inside some = inr (not_full (side at true) inside)
     by true true outside inside some = absurd cc
 
+-- the input ends before so many bytes
+pub ends_before : (old new : Option (List ℕ)) (got : List ℕ) (size : ℕ) → Consumes old new got → IsAtEnd new → length got < size → IfSome old (λ rest. length rest < size)
+ends_before None new got size reads ends short = tt
+ends_before (Some bytes) None got size reads ends short = absurd reads
+ends_before (Some bytes) (Some rest) got size reads ends short = omega (arith, ap length reads, length-append got rest, ap length ends, short)
+
 -- the input ends in a block's head
 pub stops_short : (m : ℕ) (at : Position) (old new : Option (List ℕ)) (got : List ℕ) → Consumes old new got → IsAtEnd new → 0 < length got → length got < 12
     → IfSome old (λ bytes. front m at bytes ≡ breaks at Truncated)
@@ -91,12 +97,10 @@ stops_in_payload m at kind size old mid new head ReadFault h room reads stops =
 stops_in_payload m at kind size old mid new head WantMemory h room reads stops = tt
 
 -- a fault in the bytes that were read is one of the block
-pub stops_in_bytes : (m : ℕ) (at : Position) (old new : Option (List ℕ)) (buffer held : List ℕ) (why : DecodeFault)
-    → held ≡ buffer → StopsInBytes m at held why → Consumes old new buffer → StopsAt m at old new why
-stops_in_bytes m at old new buffer held (Bad fault block offset) same stops reads =
-    (stops.0, stops.1, stops_behind m at old new held fault (subst (Consumes old new) (sym same) reads) stops.2)
-stops_in_bytes m at old new buffer held ReadFault same stops reads = absurd stops
-stops_in_bytes m at old new buffer held WantMemory same stops reads = tt
+pub stops_in_bytes : (m : ℕ) (at : Position) (old new : Option (List ℕ)) (bytes : List ℕ) (why : DecodeFault) → StopsInBytes m at bytes why → Consumes old new bytes → StopsAt m at old new why
+stops_in_bytes m at old new bytes (Bad fault block offset) stops reads = (stops.0, stops.1, stops_behind m at old new bytes fault reads stops.2)
+stops_in_bytes m at old new bytes ReadFault stops reads = absurd stops
+stops_in_bytes m at old new bytes WantMemory stops reads = tt
 
 -- no read is made of bytes that were read
 pub no_read_fault : (m : ℕ) (at : Position) (bytes : List ℕ) (why : DecodeFault) → StopsInBytes m at bytes why → why ≡ ReadFault → ⊥

@@ -220,20 +220,20 @@ impl Decoder {
             State::Failed(fault) => return Err(fault),
             State::Fresh => unreachable!(),
         };
-        let framing = match fetch(source, at, buffer) {
-            Ok(Some(framing)) => framing,
+        let (framing, bytes) = match fetch(source, at, buffer) {
+            Ok(Some(block)) => block,
             Ok(None) => return Ok(None),
             Err(why) => {
                 self.state = State::Failed(why);
                 return Err(why);
             }
         };
-        match place_behind(at, framing, buffer) {
+        match place_behind(at, framing, bytes) {
             Ok(next) => {
                 self.state = State::At { minor, at: next };
                 Ok(Some(FramedBlock {
                     framing,
-                    bytes: buffer,
+                    bytes,
                     number: at.number,
                     offset: at.offset,
                 }))

@@ -11,8 +11,9 @@ use crate::DecodeFault;
 use crate::places::{has_room, is_full};
 use crate::position::Position;
 use gfx_blocks::{Framing, Header, read_frame, read_start};
-use gfx_io::{Source, fill};
+use gfx_io::{Source, fill, set_bytes};
 use gfx_types::Fault;
+use std::alloc::AllocError;
 
 /// How many bytes of a payload are asked for at once, so that a large size over a short file takes no memory.
 const PIECE: usize = 1 << 16;
@@ -119,31 +120,43 @@ pub fn read_head<S: Source>(
     }
 }
 
-/// Reads the payload behind a block's head, and leaves both in the buffer, which grows with what comes.
-pub fn read_rest<S: Source>(
+/// Reads the payload behind a block's head, and lends both from the front of the buffer, which grows with what comes.
+pub fn read_rest<'b, S: Source>(
     source: &mut S,
     at: Position,
     framing: Framing,
     head: &[u8; 12],
-    buffer: &mut Vec<u8>,
-) -> Result<(), DecodeFault>
+    buffer: &'b mut Vec<u8>,
+) -> Result<&'b [u8], DecodeFault>
     requires { IsHead framing.kind framing.size head.now }
-    ensures whole { OnOk result ((payload : List ℕ) × (buffer.new.items ≡ head.now ++ payload) × (length payload ≡ framing.size)
+    ensures whole { IfOk result (λ bytes. (payload : List ℕ) × (bytes.now ≡ head.now ++ payload) × (length payload ≡ framing.size)
         × Consumes (S.left source.old) (S.left source.new) payload) }
     ensures fault { IfErr result (StopsInPayload framing.size (position_of at) (S.left source.old) (S.left source.new)) }
     ensures reads { ReadsSome (S.left source.old) (S.left source.new) }
     ensures later { S.faults source.old ≤ S.faults source.new }
     ensures cause { result ≡ Err DecodeFault.ReadFault → Rose (S.faults source.old) (S.faults source.new) }
 {
-    buffer.clear();
-    buffer.extend_from_slice(head)?;
-    let end = head.len() + framing.size as usize;
-    'pieces: while buffer.len() < end {
-        let most = PIECE.min(end - buffer.len());
-        if read_piece(source, most, buffer)? < most {
+    put_front(head, buffer)?;
+    let mut came = head.len();
+    let end = came + framing.size as usize;
+    'pieces: while came < end {
+        let most = PIECE.min(end - came);
+        if read_over(source, came, most, buffer)? < most {
             return Err(DecodeFault::bad(cut_fault(at), at.number, at.offset));
         }
+        came += most;
     }
+    Ok(&buffer[..end])
+}
+
+/// Puts a head over the front of the buffer. What stands behind it stays, since to clear it for each block costs as much as to copy it.
+fn put_front(head: &[u8; 12], buffer: &mut Vec<u8>) -> Result<(), AllocError>
+    ensures { OnOk result ((length head.now ≤ length buffer.new.items) × (take (length head.now) buffer.new.items ≡ head.now)) }
+{
+    if buffer.len() < head.len() {
+        buffer.resize(head.len(), 0)?;
+    }
+    set_bytes(buffer, 0, head);
     Ok(())
 }
 
@@ -174,20 +187,45 @@ pub fn read_piece<S: Source>(
     ensures cause { result ≡ Err DecodeFault.ReadFault → Rose (S.faults source.old) (S.faults source.new) }
 {
     let front = buffer.len();
-    buffer.resize(front + most, 0)?;
-    let count = fill(source, &mut buffer[front..])?;
+    let count = read_over(source, front, most, buffer)?;
     buffer.truncate(front + count);
     Ok(count)
 }
 
-/// Reads the next block into the buffer, all but what its payload decides checked, or finds the end of the input.
-pub fn fetch<S: Source>(
+/// Reads the next bytes over those of the buffer from `front` on, fewer than `most` only where the input ends. The buffer grows
+/// where they end behind it.
+fn read_over<S: Source>(
+    source: &mut S,
+    front: usize,
+    most: usize,
+    buffer: &mut Vec<u8>,
+) -> Result<usize, DecodeFault>
+    requires within { front ≤ vec_len buffer.old }
+    requires few { front + most < 2 ^ 63 }
+    ensures piece { IfOk result (λ count. (piece : List ℕ) × (length piece ≡ count) × (take (front + count) buffer.new.items ≡ take front buffer.old.items ++ piece)
+        × Consumes (S.left source.old) (S.left source.new) piece) }
+    ensures room { IfOk result (λ _. front + most ≤ length buffer.new.items) }
+    ensures ended { IfOk result (λ count. (count ≤ most) × (count < most → IsAtEnd (S.left source.new))) }
+    ensures fault { IfErr result (StopsShort most (S.left source.old) (S.left source.new)) }
+    ensures reads { ReadsSome (S.left source.old) (S.left source.new) }
+    ensures later { S.faults source.old ≤ S.faults source.new }
+    ensures cause { result ≡ Err DecodeFault.ReadFault → Rose (S.faults source.old) (S.faults source.new) }
+{
+    let end = front + most;
+    if buffer.len() < end {
+        buffer.resize(end, 0)?;
+    }
+    Ok(fill(source, &mut buffer[front..end])?)
+}
+
+/// Reads the next block, all but what its payload decides checked, and lends it from the buffer, or finds the end of the input.
+pub fn fetch<'b, S: Source>(
     source: &mut S,
     at: Position,
-    buffer: &mut Vec<u8>,
-) -> Result<Option<Framing>, DecodeFault>
-    ensures some { IfOk result (λ found. IfSome found (λ framing. IsFramed framing.kind framing.size buffer.new.items
-        × Consumes (S.left source.old) (S.left source.new) buffer.new.items)) }
+    buffer: &'b mut Vec<u8>,
+) -> Result<Option<(Framing, &'b [u8])>, DecodeFault>
+    ensures some { IfOk result (λ found. IfSome found (λ block. IsFramed block.0.kind block.0.size block.1.now
+        × Consumes (S.left source.old) (S.left source.new) block.1.now)) }
     ensures none { result ≡ Ok None → IsAtEnd (S.left source.new) × Consumes (S.left source.old) (S.left source.new) [] }
     ensures fault { (m : ℕ) → IfErr result (StopsAt m (position_of at) (S.left source.old) (S.left source.new)) }
     ensures reads { ReadsSome (S.left source.old) (S.left source.new) }
@@ -201,6 +239,6 @@ pub fn fetch<S: Source>(
     if !has_room(at) {
         return Err(DecodeFault::bad(Fault::TooManyBlocks, at.number, at.offset));
     }
-    read_rest(source, at, framing, &head, buffer)?;
-    Ok(Some(framing))
+    let bytes = read_rest(source, at, framing, &head, buffer)?;
+    Ok(Some((framing, bytes)))
 }

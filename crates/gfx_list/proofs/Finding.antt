@@ -94,4 +94,4 @@ pub piece_none : (held old new after : List ℕ) (front k len : ℕ) → take fr
     → take front (take len (put_mid front k old new ++ after)) ≡ held
 piece_none held old new after front k len is there long =
     let sum : front + 0 ≡ front = omega arith in
-    subst (λ n. take n (take len (put_mid front k old new ++ after)) ≡ held) sum (piece_behind held old new after front k len 0 is there (omega arith) long ∙ append-nil held)
+    subst (λ n. take n (take len (put_mid front k old new ++ after)) ≡ held) sum (piece_behind held old new after front k len 0 is there (omega arith) (omega (arith, long)) ∙ append-nil held)

@@ -1,4 +1,4 @@
-use Rattle.std.proofs.Common.{◌≡◌, ◌+◌, ◌-◌, take, drop, length, arith, ap, ◌∙◌, length-take, length-drop, length-take-le}
+use Rattle.std.proofs.Common.{◌≡◌, ◌+◌, ◌-◌, take, drop, length, arith, ap, ◌∙◌, length-take, length-drop, length-take-le, take_all}
 use Rattle.gfx_decode.proofs.Buffer.{front_kept, piece_behind}
 use Rattle.gfx_list.proofs.Finding.{consumes_none, piece_none}
 use Rattle.gfx_list.proofs.reading.read_some.Goals as goal
@@ -14,7 +14,7 @@ returns-in-Ok-clause-some g c =
     let size : length old ≡ front + 65536 = c.deref_mut.ensures.len ∙ c.in_ok-resize.ensures.len in
     let room : length new ≡ 65536 = omega (arith, size, c.read.auto.into, length-take (length old - front) (drop front old), length-drop front old) in
     let made = c.deref_mut.ensures.value ∙ c.in_ok-resize.ensures.items in
-    let kept : take front old ≡ held = ap (λ n. take n old) all ∙ front_kept held old _ (front + 65536) (omega (arith, all)) made in
+    let kept : take front old ≡ held = front_kept held old _ front (front + 65536) (omega (arith, all)) (omega (arith, all)) made ∙ take_all front held (omega (arith, all)) in
     let behind = piece_behind held old new _ front (length old - front) c.resize.new.self.len count kept (omega (arith, size))
     c.in-Ok.ensures.bound.0 (omega (arith, room, c.in_ok-resize.ensures.len)) in
     (take count new, length-take-le count new c.in-Ok.ensures.bound.0, c.truncate.ensures.items ∙ behind, c.in-Ok.ensures.bytes.0)
@@ -39,5 +39,5 @@ returns-in-Err-clause-kept g c is =
     let size : length old ≡ front + 65536 = c.deref_mut.ensures.len ∙ c.in_ok-resize.ensures.len in
     let room : length new ≡ 65536 = omega (arith, size, c.read.auto.into, length-take (length old - front) (drop front old), length-drop front old) in
     let made = c.deref_mut.ensures.value ∙ c.in_ok-resize.ensures.items in
-    let kept : take front old ≡ held = ap (λ n. take n old) all ∙ front_kept held old _ (front + 65536) (omega (arith, all)) made in
+    let kept : take front old ≡ held = front_kept held old _ front (front + 65536) (omega (arith, all)) (omega (arith, all)) made ∙ take_all front held (omega (arith, all)) in
     c.truncate-in-Err.ensures.items ∙ piece_none held old new _ front (length old - front) c.resize.new.self.len kept (omega (arith, size)) (omega (arith, room, c.in_ok-resize.ensures.len))

@@ -23,15 +23,17 @@ returns-in-Err-clause-fault g c n there is =
 pub returns-in-Err-place_behind-clause-err : goal.returns-in-Err-place_behind-clause-err
 returns-in-Err-place_behind-clause-err g c =
     let found = rw c.in-Ok-Some.field-0-is at c.in-Ok-Some.ensures.some in
+    let bytes = c.in-Ok-Some.block.1.now in
     gives_fault c.args.self.now c.in-At.minor (position_of c.in-At.at) _ _ c.in-Err-place_behind.why (sym c.self.view_is ∙ ap stage_of c.in-At.is)
-    (c.fetch.new.buffer.items, found.1) (stops_in_bytes c.in-At.minor (position_of c.in-At.at) _ _ c.fetch.new.buffer.items c.deref.result.now c.in-Err-place_behind.why c.deref.ensures.value (c.in-Err-place_behind.ensures.fault c.in-At.minor) found.1)
+    (bytes, found.1) (stops_in_bytes c.in-At.minor (position_of c.in-At.at) _ _ bytes c.in-Err-place_behind.why (c.in-Err-place_behind.ensures.fault c.in-At.minor) found.1)
 
 pub returns-in-Err-place_behind-clause-fault : goal.returns-in-Err-place_behind-clause-fault
 returns-in-Err-place_behind-clause-fault g c n there is =
     let found = rw c.in-Ok-Some.field-0-is at c.in-Ok-Some.ensures.some in
+    let bytes = c.in-Ok-Some.block.1.now in
     stops_there c.args.self.now c.in-At.minor n (position_of c.in-At.at) there _ _ c.in-Err-place_behind.why (sym c.self.view_is ∙ ap stage_of c.in-At.is) is
-    (stops_in_bytes c.in-At.minor (position_of c.in-At.at) _ _ c.fetch.new.buffer.items c.deref.result.now c.in-Err-place_behind.why c.deref.ensures.value (c.in-Err-place_behind.ensures.fault c.in-At.minor) found.1)
+    (stops_in_bytes c.in-At.minor (position_of c.in-At.at) _ _ bytes c.in-Err-place_behind.why (c.in-Err-place_behind.ensures.fault c.in-At.minor) found.1)
 
 pub returns-in-Err-place_behind-clause-cause : goal.returns-in-Err-place_behind-clause-cause
 returns-in-Err-place_behind-clause-cause g c is other =
-    absurd (no_read_fault c.in-At.minor (position_of c.in-At.at) c.deref.result.now c.in-Err-place_behind.why (c.in-Err-place_behind.ensures.fault c.in-At.minor) (cc is))
+    absurd (no_read_fault c.in-At.minor (position_of c.in-At.at) _ c.in-Err-place_behind.why (c.in-Err-place_behind.ensures.fault c.in-At.minor) (cc is))
