@@ -7,7 +7,6 @@ use Rattle.gfx_rules.specs.declared.checks.Check.TheVariants as check
 -- the word of the table that a check of the code says
 abbrev pub check_of : Check → model.Check
 check_of (check.Must f b) = model.Check.must f b
-check_of check.Outside = model.Check.outside
 check_of check.Inside = model.Check.inside
 check_of check.AtStart = model.Check.at_start
 check_of (check.EndsFrame frame) = model.Check.ends_frame frame
@@ -24,21 +23,13 @@ check_of (check.FreeSurface x) = model.Check.free_surface x
 check_of (check.SameInstance x y) = model.Check.same_instance x y
 check_of (check.TheQueue device queue) = model.Check.the_queue device queue
 check_of (check.TheImages swapchain images) = model.Check.the_images swapchain images.now
-check_of (check.BeginsIn x offset) = model.Check.begins_in x offset
 check_of (check.EndsIn x end) = model.Check.ends_in x end
 check_of (check.RestsIn x memory offset) = model.Check.rests_in x memory offset
 check_of (check.Unmapped x) = model.Check.unmapped x
 check_of (check.IsMapped x) = model.Check.is_mapped x
 check_of (check.Unbound x) = model.Check.unbound x
 check_of (check.Usable x) = model.Check.usable x
-check_of (check.MayUse x bit) = model.Check.may_use x bit
-check_of (check.Recording x) = model.Check.recording x
-check_of (check.NotRecording x) = model.Check.not_recording x
-check_of (check.MayBegin x) = model.Check.may_begin x
 check_of (check.MayReset x) = model.Check.may_reset x
-check_of (check.Fits n) = model.Check.fits n
-check_of (check.SameTexel x y) = model.Check.same_texel x y
-check_of (check.UintFormat x) = model.Check.uint_format x
 check_of (check.TexelDivides x offset) = model.Check.texel_divides x offset
 check_of (check.AreaIn image x y width height) = model.Check.area_in image x y width height
 check_of (check.RowsIn buffer image offset row width height) = model.Check.rows_in buffer image offset row width height

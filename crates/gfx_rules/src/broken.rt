@@ -10,8 +10,8 @@ ghost use Rattle.gfx_rules.specs.Checks.{check_of};
 use crate::answers::Answers;
 use crate::checks::{Check, unless};
 use crate::derived::{
-    all_acquired, all_signalled, has_bit, has_room_for, has_room_to_keep, is_area_in, is_fill_in,
-    is_presentable, is_texel_multiple, pool_flags, rows_end, same_truth, some_signalled, texel,
+    all_acquired, all_signalled, has_bit, has_room_for, is_area_in, is_fill_in, is_presentable,
+    is_texel_multiple, pool_flags, rows_end, same_truth, some_signalled, texel,
 };
 use crate::ids::{images_fault, new_fault, queue_fault, room_fault};
 use gfx_types::Fault;
@@ -86,7 +86,6 @@ pub fn broken<A: Answers>(answers: &A, check: Check<'_>) -> Option<Fault>
             Check::TheQueue(device, queue) => queue_fault(answers, device, queue),
             Check::TheImages(swapchain, images) => images_fault(answers, swapchain, images),
         };
-        Outside if answers.section().is_none(), StateOrder;
         Inside if answers.section().is_some(), StateOrder;
         AtStart if answers.is_empty(), StateOrder;
         EndsFrame(frame) if is_begun(answers, frame), BadValue;
@@ -99,21 +98,13 @@ pub fn broken<A: Answers>(answers: &A, check: Check<'_>) -> Option<Fault>
         BareSurface(id) if !answers.has_swapchain(id), HasChildren;
         FreeSurface(id) if !answers.has_swapchain(id), SwapState;
         SameInstance(id, other) if answers.parent_of(id) == answers.parent_of(other), WrongParent;
-        BeginsIn(id, offset) if offset < answers.size_of(id), OutOfRange;
         EndsIn(id, end) if end <= u128::from(answers.size_of(id)), OutOfRange;
         RestsIn(id, memory, offset) if lies_in(answers, id, memory, offset), OutOfRange;
         Unmapped(memory) if answers.mapped(memory).is_none(), MapState;
         IsMapped(memory) if answers.mapped(memory).is_some(), MapState;
         Unbound(id) if !answers.is_bound(id), AlreadyBound;
         Usable(id) if answers.is_usable(id), NotBound;
-        MayUse(id, bit) if has_bit(answers.usage_of(id), bit), UsageMissing;
-        Recording(cb) if answers.is_recording(cb), CommandState;
-        NotRecording(cb) if !answers.is_recording(cb), CommandState;
-        MayBegin(cb) if may_begin(answers, cb), PoolRule;
         MayReset(cb) if has_bit(pool_flags(answers, cb), 2), PoolRule;
-        Fits(more) if has_room_to_keep(answers, more), LimitReached;
-        SameTexel(id, other) if texel(answers, id) == texel(answers, other), FormatDiffers;
-        UintFormat(image) if matches!(answers.format_at(image), 13 | 41 | 98), FormatDiffers;
         TexelDivides(image, offset) if is_texel_multiple(answers, image, offset), BadValue;
         AreaIn(image, x, y, width, height)
             if is_area_in(answers, image, x, y, width, height), OutOfRange;
