@@ -48,10 +48,7 @@ impl Accesses {
         ensures ok { OnOk result (self.new ≡ self.old ++ access.Show image size ∷ []) }
         ensures err { OnErr result (self.new ≡ self.old) }
     {
-        match self.items.push(Access::Show { image, size }) {
-            Ok(()) => Ok(()),
-            Err(_) => Err(WantMemory),
-        }
+        Ok(self.items.push(Access::Show { image, size })?)
     }
 
     /// Adds the accesses of operations in order, where their effect gives so many bytes of its own. For want of memory
@@ -90,9 +87,7 @@ fn append(items: &mut Vec<Access>, ops: &[Op], given: usize) -> Result<(), WantM
 {
     'ops: for op in ops {
         if let Some(access) = access_of(op, given) {
-            if let Err(_) = items.push(access) {
-                return Err(WantMemory);
-            }
+            items.push(access)?;
         }
     }
     Ok(())

@@ -61,14 +61,11 @@ impl Asked {
     fn give(&mut self, place: Place, offsets: Offsets) -> Result<(), WantMemory>
         ensures { OnOk result (IsSet (offsets_at self.old) (offsets_at self.new) place (Some offsets)) }
     {
-        let given = match place {
-            Place::Memory(id) => self.memories.insert(id, offsets),
-            Place::Image(id) => self.images.insert(id, offsets),
+        match place {
+            Place::Memory(id) => self.memories.insert(id, offsets)?,
+            Place::Image(id) => self.images.insert(id, offsets)?,
         };
-        match given {
-            Ok(_) => Ok(()),
-            Err(_) => Err(WantMemory),
-        }
+        Ok(())
     }
 
     /// Goes back before an access. After want of memory it is not known what is asked for.

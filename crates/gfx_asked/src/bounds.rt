@@ -87,12 +87,8 @@ pub(crate) fn set(bounds: &mut Bounds, from: u64, to: u64, held: bool) -> Result
 {
     let before = held_before(bounds, from);
     let after = holds(bounds, to);
-    if let Err(_) = bounds.insert(to, after) {
-        return Err(WantMemory);
-    }
-    if let Err(_) = bounds.insert(from, held) {
-        return Err(WantMemory);
-    }
+    bounds.insert(to, after)?;
+    bounds.insert(from, held)?;
     clear_between(bounds, from, to);
     drop_idle(bounds, from, before, held);
     drop_idle(bounds, to, held, after);

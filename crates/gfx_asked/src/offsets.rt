@@ -69,9 +69,7 @@ impl Offsets {
                     from: target + at,
                     to: target + end,
                 };
-                if let Err(_) = stretches.push(stretch) {
-                    return Err(WantMemory);
-                }
+                stretches.push(stretch)?;
             }
             at = end;
         }

@@ -97,8 +97,5 @@ fn put(bytes: &[u8], out: &mut Vec<u8>) -> Result<(), WantMemory>
     ensures ok { OnOk result (out.new.items ≡ out.old.items ++ bytes.now) }
     ensures err { OnErr result (out.new.items ≡ out.old.items) }
 {
-    match out.extend_from_slice(bytes) {
-        Ok(()) => Ok(()),
-        Err(_) => Err(WantMemory),
-    }
+    Ok(out.extend_from_slice(bytes)?)
 }

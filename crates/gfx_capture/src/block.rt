@@ -64,9 +64,7 @@ pub(crate) fn put_with_thread(
     ensures err { OnErr result (out.new.items ≡ out.old.items) }
 {
     let start = out.len();
-    let Ok(()) = out.extend_from_slice(block) else {
-        return Err(WantMemory);
-    };
+    out.extend_from_slice(block)?;
     let place = &mut out[start + THREAD..start + THREAD + 8];
     place.copy_from_slice(&u64::from(thread).to_le_bytes());
     Ok(())

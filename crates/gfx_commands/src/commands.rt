@@ -110,12 +110,8 @@ impl Commands {
         ensures err { OnErr result (self.new ≡ self.old) }
     {
         let before = self.fields.len();
-        let Ok(()) = self.uses.reserve(call, is_known) else {
-            return Err(WantMemory);
-        };
-        let Ok(()) = self.commands.reserve(1) else {
-            return Err(WantMemory);
-        };
+        self.uses.reserve(call, is_known)?;
+        self.commands.reserve(1)?;
         gfx_params::encode(1, call, &mut self.fields)?;
         gfx_grammar::spelled_is_read();
         self.commands.push_reserved(Command {

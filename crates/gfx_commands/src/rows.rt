@@ -125,10 +125,7 @@ impl Rows {
         ensures same { self.new.map ≡ self.old.map }
         ensures ok { OnOk result (1 ≤ self.new.spare) }
     {
-        match self.table.reserve(1) {
-            Ok(()) => Ok(()),
-            Err(_) => Err(WantMemory),
-        }
+        Ok(self.table.reserve(1)?)
     }
 
     /// Begins to record. A new buffer takes one of the spare places.

@@ -45,9 +45,7 @@ impl Users {
             let Some(resource) = resource_at(call, at) else {
                 unreachable!()
             };
-            let Ok(()) = self.groups.reserve(resource, 1) else {
-                return Err(WantMemory);
-            };
+            self.groups.reserve(resource, 1)?;
         }
         Ok(())
     }

@@ -21,9 +21,7 @@ pub(crate) fn gather(alloc: Global, script: &Script) -> Result<Script, WantMemor
     let mut phases = Vec::new(alloc);
     'phases: for phase in script.phases.items() {
         let gathered = gather_phase(alloc, minor, phase)?;
-        if let Err(_) = phases.push(gathered) {
-            return Err(WantMemory);
-        }
+        phases.push(gathered)?;
     }
     Ok(Script {
         minor,
@@ -39,9 +37,7 @@ fn gather_phase(alloc: Global, minor: u32, phase: &Phase) -> Result<Phase, WantM
     let mut parts = Vec::new(alloc);
     'parts: for part in phase.threads.items() {
         let gathered = gather_part(alloc, minor, part)?;
-        if let Err(_) = parts.push(gathered) {
-            return Err(WantMemory);
-        }
+        parts.push(gathered)?;
     }
     Ok(Phase {
         threads: Parts::of(parts),

@@ -122,20 +122,14 @@ fn ends_holding_call(call: &Call<'_>) -> bool
 fn push_copy(alloc: Global, line: &Line, lines: &mut Vec<Line>) -> Result<(), WantMemory>
     ensures { OnOk result (map line_of lines.new.items ≡ map line_of lines.old.items ++ line_of line.now ∷ []) }
 {
-    let Ok(copy) = line.copy(alloc) else {
-        return Err(WantMemory);
-    };
-    push(copy, lines)
+    push(line.copy(alloc)?, lines)
 }
 
 /// Appends a line.
 fn push(line: Line, lines: &mut Vec<Line>) -> Result<(), WantMemory>
     ensures { OnOk result (map line_of lines.new.items ≡ map line_of lines.old.items ++ line_of line ∷ []) }
 {
-    match lines.push(line) {
-        Ok(()) => Ok(()),
-        Err(_) => Err(WantMemory),
-    }
+    Ok(lines.push(line)?)
 }
 
 /// Appends the fills of what is held as lines with this number; then nothing is held.
@@ -181,9 +175,7 @@ fn push_fill(
     requires { IsTrue (is_version minor) }
     ensures { OnOk result (map line_of lines.new.items ≡ map line_of lines.old.items ++ fill_line number (write_of fill.now.memory fill.now.offset fill.now.bytes.now) ∷ []) }
 {
-    let Ok(uses) = vec![in alloc; fill.memory] else {
-        return Err(WantMemory);
-    };
+    let uses = vec![in alloc; fill.memory]?;
     let effect = effect_of(fill.memory, fill.offset, fill.bytes);
     let defines = Ids::of(Vec::new(alloc));
     let line = Line::new(alloc, number, minor, &effect, defines, Ids::of(uses))?;

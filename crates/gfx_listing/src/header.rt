@@ -148,10 +148,7 @@ fn begin_header(minor: u32, count: u32, out: &mut Vec<u8>) -> Result<(), WantMem
 {
     put_header(minor, out)?;
     out.truncate(out.len() - COUNT_LENGTH);
-    match out.extend_from_slice(&count.to_le_bytes()) {
-        Ok(()) => Ok(()),
-        Err(AllocError) => Err(WantMemory),
-    }
+    Ok(out.extend_from_slice(&count.to_le_bytes())?)
 }
 
 /// Appends the keys and values of options.

@@ -23,9 +23,7 @@ fn bytes_of(alloc: Global, frame: u64) -> Result<Vec<u8>, WantMemory>
     let mut bytes = Vec::new(alloc);
     'bytes: for j in 0..PART {
         let byte = (31 * frame + 7 * j + j / 256) % 256;
-        let Ok(()) = bytes.push(byte as u8) else {
-            return Err(WantMemory);
-        };
+        bytes.push(byte as u8)?;
     }
     Ok(bytes)
 }

@@ -25,10 +25,8 @@ pub(crate) fn ids_of(alloc: Global, ids: &[u64]) -> Result<Ids, WantMemory>
     ensures { IfOk result (λ list. list ≡ ids.now) }
 {
     let mut items = Vec::new(alloc);
-    match items.extend_from_slice(ids) {
-        Ok(()) => Ok(Ids::of(items)),
-        Err(_) => Err(WantMemory),
-    }
+    items.extend_from_slice(ids)?;
+    Ok(Ids::of(items))
 }
 
 /// The list of one item.
@@ -36,8 +34,6 @@ pub(crate) fn one<T: Drop>(alloc: Global, item: T) -> Result<Vec<T>, WantMemory>
     ensures { IfOk result (λ list. list.items ≡ item ∷ []) }
 {
     let mut items = Vec::new(alloc);
-    match items.push(item) {
-        Ok(()) => Ok(items),
-        Err(_) => Err(WantMemory),
-    }
+    items.push(item)?;
+    Ok(items)
 }

@@ -50,10 +50,7 @@ impl NeededIds {
     pub fn name(&mut self, tracker: &Tracker, effect: &Effect<'_>) -> Result<(), WantMemory>
         ensures { OnOk result ((range : List Event) → IsSearched (answers tracker.now) range self.old → IsSearched (answers tracker.now) (range ++ event_of effect.now ∷ []) self.new) }
     {
-        match self.mark_named(tracker, effect) {
-            Ok(()) => Ok(()),
-            Err(AllocError) => Err(WantMemory),
-        }
+        Ok(self.mark_named(tracker, effect)?)
     }
 
     /// Finds what these ids stand on, and what that stands on, to the end.
@@ -61,9 +58,7 @@ impl NeededIds {
         ensures { OnOk result ((range : List Event) → IsSearched (answers tracker.now) range self.old → IsFound (answers tracker.now) range (is_marked self.new)) }
     {
         'pending: while let Some(id) = self.pending.pop() {
-            if let Err(AllocError) = self.mark_grounds(tracker, id) {
-                return Err(WantMemory);
-            }
+            self.mark_grounds(tracker, id)?;
         }
         Ok(())
     }

@@ -183,24 +183,20 @@ impl Objects {
         ensures room { OnOk result (n ≤ room_in self.new.owned parent) }
         ensures rooms { (x : ℕ) → room_in self.old.owned x ≤ room_in self.new.owned x }
     {
-        if self.owned.reserve(parent, n as usize).is_err() {
-            return Err(WantMemory);
-        }
+        self.owned.reserve(parent, n as usize)?;
         if self.room >= n {
             return Ok(());
         }
         let room = n.max(AHEAD);
         self.noted = None;
-        let Ok(()) = reserve_each(
+        reserve_each(
             &mut self.rows,
             &mut self.ended,
             &mut self.children,
             &mut self.swapchains,
             room as usize,
             self.count as usize,
-        ) else {
-            return Err(WantMemory);
-        };
+        )?;
         self.room = room;
         Ok(())
     }
@@ -354,9 +350,7 @@ impl Objects {
         ensures ended { self.new.ended ≡ self.old.ended }
         ensures spare { self.new.spare ≡ self.old.spare }
     {
-        if self.resting.reserve(memory, 1).is_err() {
-            return Err(WantMemory);
-        }
+        self.resting.reserve(memory, 1)?;
         let before = object.detail.memory();
         self.noted = None;
         move_to(&mut self.resting, before, memory, id);

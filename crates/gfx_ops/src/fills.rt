@@ -72,9 +72,7 @@ pub(crate) fn cmd_update_buffer(
     let Some(window) = objects.window(buffer) else {
         return Ok(());
     };
-    let Ok(bytes) = Vec::from_slice(alloc, bytes) else {
-        return Err(WantMemory);
-    };
+    let bytes = Vec::from_slice(alloc, bytes)?;
     ops.push(update_op(window, offset, Piece::of(bytes)))
 }
 

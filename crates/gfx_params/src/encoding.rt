@@ -7,7 +7,6 @@ ghost use Rattle.gfx_params.specs.Writes.{written};
 
 use crate::write::WriteFields;
 use gfx_types::{Call, Ids, Meta, Presents, WantMemory, calls, in_order, metas};
-use std::alloc::AllocError;
 
 /// Puts the fields of a value by its row at a place.
 macro_rules! written {
@@ -73,10 +72,7 @@ fn make_room(out: &mut Vec<u8>, size: u64) -> Result<(), WantMemory>
     ensures err { OnErr result (out.new.items ≡ out.old.items) }
 {
     let end = out.len().saturating_add(size as usize);
-    match out.resize(end, 0) {
-        Ok(()) => Ok(()),
-        Err(AllocError) => Err(WantMemory),
-    }
+    Ok(out.resize(end, 0)?)
 }
 
 /// How many bytes the fields of a call take in this minor version, or 2^64 - 1 where these are more.

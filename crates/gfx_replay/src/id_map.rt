@@ -42,13 +42,9 @@ impl IdMap {
         ensures same { IsSame (handle_of self.old) (handle_of self.new) }
         ensures ok { OnOk result (1 ≤ room_for self.new place) }
     {
-        let reserved = match place {
-            Place::Memory(_) => self.memories.reserve(1),
-            Place::Image(_) => self.images.reserve(1),
-        };
-        match reserved {
-            Ok(()) => Ok(()),
-            Err(_) => Err(WantMemory),
+        match place {
+            Place::Memory(_) => Ok(self.memories.reserve(1)?),
+            Place::Image(_) => Ok(self.images.reserve(1)?),
         }
     }
 

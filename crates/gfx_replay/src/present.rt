@@ -53,9 +53,7 @@ fn shown_pictures(
     let mut pictures = Vec::new(alloc);
     for present in presents {
         if let Some(picture) = shown_picture(tracker, *present) {
-            let Ok(()) = pictures.push(picture) else {
-                return Err(WantMemory);
-            };
+            pictures.push(picture)?;
         }
     }
     Ok(pictures)

@@ -105,10 +105,7 @@ pub fn ending_images(
 {
     match effect {
         Effect::Call(Call::DestroySwapchainKHR { swapchain, .. }) => {
-            match Vec::from_slice(alloc, objects.owned(*swapchain)) {
-                Ok(images) => Ok(images),
-                Err(_) => Err(WantMemory),
-            }
+            Ok(Vec::from_slice(alloc, objects.owned(*swapchain))?)
         }
         _ => Ok(Vec::new(alloc)),
     }

@@ -91,10 +91,7 @@ impl Kept {
             return self.write(alloc, named);
         }
         match decode(alloc, self.minor, self.call, &self.fields) {
-            Ok(call) => match with_ids(alloc, &call, named, made) {
-                Ok(call) => Ok(Effect::Call(call)),
-                Err(_) => Err(WantMemory),
-            },
+            Ok(call) => Ok(Effect::Call(with_ids(alloc, &call, named, made)?)),
             Err(ParamFault::WantMemory) => Err(WantMemory),
             Err(ParamFault::BadParams) => unreachable!(),
         }

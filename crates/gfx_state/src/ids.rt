@@ -95,8 +95,5 @@ pub fn fetched(
 pub(crate) fn ids_of(alloc: Global, ids: &[u64]) -> Result<Ids, WantMemory>
     ensures { IfOk result (λ all. all ≡ ids.now) }
 {
-    match Vec::from_slice(alloc, ids) {
-        Ok(all) => Ok(Ids::of(all)),
-        Err(_) => Err(WantMemory),
-    }
+    Ok(Ids::of(Vec::from_slice(alloc, ids)?))
 }

@@ -49,9 +49,7 @@ impl Sync {
         ensures ok { OnOk result (self.new ≡ map.insert self.old id signalled) }
         ensures err { OnErr result (self.new ≡ self.old) }
     {
-        if self.signals.reserve(1).is_err() {
-            return Err(WantMemory);
-        }
+        self.signals.reserve(1)?;
         self.signals.set(id, signalled);
         Ok(())
     }

@@ -65,12 +65,8 @@ impl Swaps {
         ensures ok { OnOk result (self.new ≡ map.insert self.old swapchain (replicate images false)) }
         ensures err { OnErr result (self.new ≡ self.old) }
     {
-        let Ok(marks) = Marks::new(self.alloc, images) else {
-            return Err(WantMemory);
-        };
-        if self.swapchains.reserve(1).is_err() {
-            return Err(WantMemory);
-        }
+        let marks = Marks::new(self.alloc, images)?;
+        self.swapchains.reserve(1)?;
         self.swapchains.set(swapchain, marks);
         Ok(())
     }

@@ -112,10 +112,7 @@ impl OpList {
         ensures ok { OnOk result (self.new ≡ self.old ++ op ∷ []) }
         ensures err { OnErr result (self.new ≡ self.old) }
     {
-        match self.items.push(op) {
-            Ok(()) => Ok(()),
-            Err(_) => Err(WantMemory),
-        }
+        Ok(self.items.push(op)?)
     }
 
     /// Keeps the first `length` operations, of which there have to be so many. Takes no memory.

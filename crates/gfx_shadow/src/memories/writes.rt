@@ -61,13 +61,9 @@ fn put_new(
 {
     let mut stretches = Stretches::new(alloc);
     stretches.put(offset, bytes)?;
-    if let Err(_) = memories.places.reserve(1) {
-        return Err(WantMemory);
-    }
+    memories.places.reserve(1)?;
     let at = memories.rows.len();
-    if let Err(_) = memories.rows.push(MemoryBytes { memory, stretches }) {
-        return Err(WantMemory);
-    }
+    memories.rows.push(MemoryBytes { memory, stretches })?;
     memories.places.set(memory, at);
     Ok(())
 }

@@ -67,13 +67,8 @@ impl Stretch {
         } else {
             places_end
         };
-        match with_room(alloc, self.base - base, &self.bytes, end - places_end) {
-            Ok(bytes) => {
-                self.base = base;
-                self.bytes = bytes;
-                Ok(())
-            }
-            Err(_) => Err(WantMemory),
-        }
+        self.bytes = with_room(alloc, self.base - base, &self.bytes, end - places_end)?;
+        self.base = base;
+        Ok(())
     }
 }

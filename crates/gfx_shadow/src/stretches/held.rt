@@ -30,9 +30,7 @@ impl Stretches {
         ensures ok { OnOk result (stretches_byte self.new ≡ overlay offset piece.now (stretches_byte self.old)) }
         ensures err { OnErr result (stretches_byte self.new ≡ stretches_byte self.old) }
     {
-        if let Err(_) = self.by_end.reserve(1) {
-            return Err(WantMemory);
-        }
+        self.by_end.reserve(1)?;
         let end = offset + piece.len();
         let from = joined_start(&self.by_end, offset);
         let to = joined_end(&self.by_end, end);

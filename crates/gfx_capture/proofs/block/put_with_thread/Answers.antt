@@ -8,5 +8,5 @@ returns-clause-ok c =
     let start = c.len-start.result in
     let from : start ≡ length c.args.out.now.items = c.len-start.ensures ∙ c.args.out.now.ok.0 in
     placed c.args.thread c.args.out.now.items c.args.block.now c.extend_from_slice.new.self.items c.copy_from_slice.new.self c.deref_mut.result.now
-    (start + 16) (start + 16 + 8 - (start + 16)) c.extend_from_slice.new.self.len _ c.requires (omega arith) c.in-Ok.ensures.items c.deref_mut.ensures.value (omega arith) c.extend_from_slice.new.self.ok.0
+    (start + 16) (start + 16 + 8 - (start + 16)) c.extend_from_slice.new.self.len _ c.requires (omega arith) c.in_ok-extend_from_slice.ensures.items c.deref_mut.ensures.value (omega arith) c.extend_from_slice.new.self.ok.0
     (c.copy_from_slice.ensures.after ∙ c.to_le_bytes.ensures ∙ ap (to_le_bytes w64) c.from.ensures)

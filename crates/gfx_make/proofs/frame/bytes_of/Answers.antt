@@ -7,7 +7,7 @@ use Rattle.gfx_make.proofs.frame.bytes_of.Goals as goal
 pub bytes-preserved : goal.bytes-preserved
 bytes-preserved c =
     let byte = frame_byte c.args.frame in
-    c.in-Ok.ensures.items ∙ ap (λ l. l ++ byte c.bytes.j ∷ []) c.bytes.invariant
+    c.in_ok-push.ensures.items ∙ ap (λ l. l ++ byte c.bytes.j ∷ []) c.bytes.invariant
     ∙ sym (map-range_with_len_more byte 0 c.bytes.j c.bytes.j (omega arith))
 
 pub returns : goal.returns

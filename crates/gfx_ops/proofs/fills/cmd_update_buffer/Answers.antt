@@ -26,6 +26,6 @@ returns-clause-ok c =
     let w = window_of c.in-Some.window in
     subst (λ more. OnOk c.push.result (c.push.new.self ≡ c.args.ops.now ++ more))
     (ap (λ o. o ∷ []) c.update_op.ensures
-    ∙ ap (λ bytes. op.Put w.place (w.offset + c.args.offset) bytes ∷ []) (c.of.ensures ∙ c.in-Ok.ensures.items)
+    ∙ ap (λ bytes. op.Put w.place (w.offset + c.args.offset) bytes ∷ []) (c.of.ensures ∙ c.in_ok-bytes.ensures.items)
     ∙ update_ops v c.args._cb c.args.buffer c.args.offset c.args.bytes.now w c.in-Some.ensures.window)
     c.push.ensures.ok

@@ -10,5 +10,5 @@ resources-preserved c =
     record {
       same = c.reserve.ensures.same ∙ c.resources.invariant.same;
       room = room_more c.resources.self.groups.sets.map c.reserve.new.self.sets.map xs c.resources.at c.in-Some.resource c.in-Some.ensures c.resources.invariant.room
-          c.in-Ok.ensures.ok c.reserve.ensures.room;
+          c.in_ok-reserve.ensures.ok c.reserve.ensures.room;
     }

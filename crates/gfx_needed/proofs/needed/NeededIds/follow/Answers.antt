@@ -10,13 +10,13 @@ no_items (x ∷ xs) e = absurd (omega (arith, e))
 
 pub pending-smaller : goal.pending-smaller
 unfolding is_marked
-pending-smaller c = less_work c.args.tracker.now [] c.in-Some.id c.pending.self _ c.mark_grounds.new.self c.in-Some.ensures.items (λ y. refl) c.in_default-mark_grounds.ensures
+pending-smaller c = less_work c.args.tracker.now [] c.in-Some.id c.pending.self _ c.mark_grounds.new.self c.in-Some.ensures.items (λ y. refl) c.in_ok-mark_grounds.ensures
 
 pub pending-preserved : goal.pending-preserved
 unfolding is_marked
 pending-preserved c =
     λ range s.
-    searched_on c.args.tracker.now range c.in-Some.id c.pending.self _ c.mark_grounds.new.self c.in-Some.ensures.items (λ y. refl) c.in_default-mark_grounds.ensures (c.pending.invariant range s)
+    searched_on c.args.tracker.now range c.in-Some.id c.pending.self _ c.mark_grounds.new.self c.in-Some.ensures.items (λ y. refl) c.in_ok-mark_grounds.ensures (c.pending.invariant range s)
 
 pub returns : goal.returns
 unfolding is_marked

@@ -3,5 +3,5 @@ use Rattle.gfx_tracker.specs.Tracker.{answers}
 use Rattle.gfx_needed.proofs.Searching.{searched_more}
 use Rattle.gfx_needed.proofs.needed.NeededIds.name.Goals as goal
 
-pub returns-in-Ok : goal.returns-in-Ok
-returns-in-Ok c = λ range. searched_more (answers c.args.tracker.now) range (event_of c.args.effect.now) c.args.self.now c.mark_named.new.self c.in-Ok.ensures
+pub returns : goal.returns
+returns c = λ range. searched_more (answers c.args.tracker.now) range (event_of c.args.effect.now) c.args.self.now c.mark_named.new.self c.in_ok-mark_named.ensures

@@ -15,8 +15,8 @@ invariant_of-self c = owned_anew c.self.inside c.reserve.new.self c.reserve.ensu
 pub invariant_of-self-then-self-n : goal.invariant_of-self-then-self-n
 invariant_of-self-then-self-n c = owned_anew c.self.inside c.reserve.new.self c.reserve.ensures.same c.self.invariant
 
-pub returns-then-is_err-clause-same : goal.returns-then-is_err-clause-same
-returns-then-is_err-clause-same c =
+pub returns-in_err-reserve-clause-same : goal.returns-in_err-reserve-clause-same
+returns-in_err-reserve-clause-same c =
     let s = c.self.inside in
     answers_same (kept_of s) (record { rows = s.rows.map; ended = s.ended; owned = c.reserve.new.self.sets.map; spare = s.room }) refl refl ∙ ap answers c.self.view_is
 
@@ -25,8 +25,8 @@ returns-then-self-n-clause-same c =
     let s = c.self.inside in
     answers_same (kept_of s) (record { rows = s.rows.map; ended = s.ended; owned = c.reserve.new.self.sets.map; spare = s.room }) refl refl ∙ ap answers c.self.view_is
 
-pub invariant_of-self-in_default : goal.invariant_of-self-in_default
-invariant_of-self-in_default c =
+pub invariant_of-self-in_err-reserve_each : goal.invariant_of-self-in_err-reserve_each
+invariant_of-self-in_err-reserve_each c =
     let s = c.self.inside in
     let e = c.reserve_each.ensures in
     let n = c.reserve_each.new in
@@ -46,8 +46,8 @@ invariant_of-self-in_default c =
       noted = none_noted _;
     }
 
-pub returns-in_default-clause-same : goal.returns-in_default-clause-same
-returns-in_default-clause-same c =
+pub returns-in_err-reserve_each-clause-same : goal.returns-in_err-reserve_each-clause-same
+returns-in_err-reserve_each-clause-same c =
     let s = c.self.inside in
     let e = c.reserve_each.ensures in
     let n = c.reserve_each.new in
@@ -57,7 +57,7 @@ pub invariant_of-self-2 : goal.invariant_of-self-2
 invariant_of-self-2 c =
     let s = c.self.inside in
     let e = c.reserve_each.ensures in
-    let made = c.in-Ok.ensures in
+    let made = c.in_ok-reserve_each.ensures in
     let n = c.reserve_each.new in
     record {
       sound = sound_same (kept_of s) (record { rows = n.rows.map; ended = n.ended; owned = c.reserve.new.self.sets.map; spare = c.max-room.result }) e.rows e.ended c.self.invariant.sound;

@@ -19,7 +19,7 @@ join_all-requires-clause-fits c =
       from = from;
       to = to;
       hull = among_hull c.reserve.new.self.map c.take-stretch.new.by_end.map from to taken.fewer hull;
-      room = c.write.ensures.room from to c.in_default-reach.ensures.ok;
+      room = c.write.ensures.room from to c.in_default.ensures.ok;
       low = omega (arith, low, start, new_start, before);
       high = omega (arith, high, end, new_end, behind);
     }
