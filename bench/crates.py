@@ -42,7 +42,7 @@ def below(name, uses):
 def workspace(name):
     """Makes the workspace, and gives the folder of the program's crate in it."""
     with open(os.path.join(TOP, "crates.txt"), encoding="ascii") as lines:
-        uses = {crate: used.split() for crate, used in (line.split(":") for line in lines if not line.startswith("#"))}
+        uses = {crate: used.split() for crate, used in (line.split(":") for line in lines if line[0].isalpha())}
     program = f"{name}_speed"
     uses[program] = USES[name].split()
     for crate in below(program, uses):

@@ -4,8 +4,8 @@
     failing.py PROGRAM [--most N] [--jobs N]
 
 Each command is run over the examples that it takes: once with nothing failing, and then once for each k with the k-th call failing, up to N
-(2,000 where it isn't said) of each kind. A failed read is status 5 and its line, a failed write status 6, and want of memory status 1; none has
-another line, and standard output is a front of what it is where nothing fails. A call of which nothing depends may fail without a sign:
+(2,000 where it isn't said) of each kind. A failed read is status 5 and its line, a failed write status 6, and a lack of memory status 1; none has
+another line, and standard output is a prefix of what it is where nothing fails. A call of which nothing depends may fail without a sign:
 then all is as it is where nothing fails. What several threads record has another order each time, so of that only the
 status and the notes are looked at. The library that has calls fail is made of `failing.c` with `cc`, in /tmp/gfxcap_failing. The status is 1 where
 an answer is wrong.
@@ -24,6 +24,7 @@ PLACE = "/tmp/gfxcap_failing"
 LIBRARY = os.path.join(PLACE, "failing.so")
 ENDS = {"read": (5, b"read fault\n"), "write": (6, b""), "malloc": (1, b"")}
 ON_CAPTURES = ("info", "replay --pixels", "trim 1-1", "lean 1-1", "upgrade", "list", "digests")
+ON_MORE_FRAMES = ("trim 2-2", "lean 2-2")  # so that the section's writer is refused memory
 ON_SCRIPTS = ("capture", "capture --gather", "capture --frames 1-1")
 
 
@@ -74,7 +75,8 @@ def main():
         for path in sorted(glob.glob(os.path.join(TOP, "examples", "*." + kind))):
             with open(path, "rb") as data:
                 content = data.read()
-            cases += [(os.path.basename(path), words, content) for words in commands]
+            more = ON_MORE_FRAMES if "three_frames" in path else ()
+            cases += [(os.path.basename(path), words, content) for words in (*commands, *more)]
             if kind == "gfxcap":
                 listing = run(program, "list", content)[0][1]
                 cases.append((os.path.basename(path) + " as a listing", "unlist", listing))

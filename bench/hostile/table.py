@@ -1,11 +1,11 @@
 #!/usr/bin/env python3
 """Runs gfxcap on files that were cut short or changed, and compares what it answers with what it has to.
 
-    table.py PROGRAM [--seed N] [--count N] [--jobs N] [--keep FOLDER] [PART..]
+    table.py PROGRAM [--seed N] [--count N] [--small BYTES] [--jobs N] [--keep FOLDER] [PART..]
 
 The parts are
 
-    prefixes   every proper prefix of the captures of up to 32,768 bytes, and a twentieth of COUNT of each larger one, half of them
+    prefixes   every proper prefix of the captures of up to SMALL bytes, 32,768 where it isn't said, and a twentieth of COUNT of each larger one, half of them
                near the ends of blocks: `info` and `replay` end with status 0 where a block ends, and else name the cut block
     captures   COUNT captures in which bytes were changed: `info` says what the steps of docs/format.md say (`reading.py`); `replay`
                says that too, or names a rule that an earlier block breaks, none before the first changed byte; `digests` says
@@ -35,7 +35,7 @@ import reading
 from program import Program, Wrong
 
 TOP = reading.TOP
-SMALL = 32768  # of a capture of up to so many bytes each prefix is run
+SMALL = 32768  # bytes
 NEAR = 13  # bytes: a block's head and one more
 KINDS = ("BadByte", "LineTooLong", "TooMany", "BadLine", "Structure", "NameUnknown", "NameTaken")
 
@@ -137,10 +137,10 @@ def check_prefix(program, whole, length):
     return data, None
 
 
-def lengths(whole, count, draw):
+def lengths(whole, count, small, draw):
     """The lengths of the prefixes that are run: all of a small capture."""
     size = len(whole.data)
-    if size <= SMALL:
+    if size <= small:
         return range(size)
     near = [min(max(draw.choice(whole.ends) + draw.randint(-NEAR, NEAR), 0), size - 1) for _ in range(count // 40)]
     return near + [draw.randrange(size) for _ in range(count // 40)]
@@ -321,7 +321,7 @@ class Table:
 
     def prefixes(self):
         for whole in self.wholes:
-            for length in lengths(whole, self.given.count, self.draw("prefixes", whole.name)):
+            for length in lengths(whole, self.given.count, self.given.small, self.draw("prefixes", whole.name)):
                 yield f"{length} of {whole.name}", lambda whole=whole, length=length: check_prefix(self.program, whole, length)
 
     def changes(self, part, names, check):
@@ -350,6 +350,7 @@ def main():
     words.add_argument("program")
     words.add_argument("--seed", type=int, default=1)
     words.add_argument("--count", type=int, default=10000)
+    words.add_argument("--small", type=int, default=SMALL)
     words.add_argument("--jobs", type=int, default=2)
     words.add_argument("--keep", default="/tmp/gfxcap_hostile/wrong")
     words.add_argument("parts", nargs="*", metavar="PART")
