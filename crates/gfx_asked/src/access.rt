@@ -10,7 +10,7 @@ pub enum Access {
         image: u64,
         size: u64,
     },
-    /// Bytes are written that stand on no others.
+    /// Bytes are written that depend on no others.
     Write {
         place: Place,
         offset: u64,

@@ -43,7 +43,7 @@ impl Accesses {
         }
     }
 
-    /// Adds that an image of so many bytes is shown. For want of memory the accesses are as they were.
+    /// Adds that an image of so many bytes is shown. When out of memory the accesses are as they were.
     pub fn push_shown(&mut self, image: u64, size: u64) -> Result<(), WantMemory>
         ensures ok { OnOk result (self.new ≡ self.old ++ access.Show image size ∷ []) }
         ensures err { OnErr result (self.new ≡ self.old) }
@@ -51,7 +51,7 @@ impl Accesses {
         Ok(self.items.push(Access::Show { image, size })?)
     }
 
-    /// Adds the accesses of operations in order, where their effect gives so many bytes of its own. For want of memory
+    /// Adds the accesses of operations in order, where their effect gives so many bytes of its own. When out of memory
     /// the accesses are as they were.
     pub fn push_ops(&mut self, ops: &[Op], given: usize) -> Result<(), WantMemory>
         requires { AreNear given ops.now }
@@ -80,7 +80,7 @@ impl Accesses {
     }
 }
 
-// Appends the accesses of operations. For want of memory the list begins with what it was.
+// Appends the accesses of operations. When out of memory the list begins with what it was.
 fn append(items: &mut Vec<Access>, ops: &[Op], given: usize) -> Result<(), WantMemory>
     ensures ok { OnOk result (items.new.items ≡ items.old.items ++ flat_map (accesses_of_op given) ops.now) }
     ensures err { OnErr result (take (length items.old.items) items.new.items ≡ items.old.items) }

@@ -1,4 +1,6 @@
 //! The bytes that are asked for.
+//!
+//! What is asked for is found from the accesses of the range, backwards, which know nothing of objects.
 ghost use Rattle.std.specs.Prelude.{IsTrue, ◌↔◌, ◌≡◌, ℕ, ◌+◌, ◌<◌, ◌^◌, false, Some, None, OnOk};
 ghost use Rattle.std.specs.List.{list_any, range_with_len};
 ghost use Rattle.gfx_types.specs.declared.op.Place.{Place};
@@ -68,7 +70,7 @@ impl Asked {
         Ok(())
     }
 
-    /// Goes back before an access. After want of memory it is not known what is asked for.
+    /// Goes back before an access. When out of memory it is not known what is asked for.
     pub(crate) fn go_before(&mut self, access: &Access) -> Result<(), WantMemory>
         requires { IsNear access.now }
         ensures { OnOk result (AreSame (questions self.new) (before access.now (questions self.old))) }

@@ -1,4 +1,7 @@
 //! Sets of numbers, told by the places where they change.
+//!
+//! A set is where it changes, and the last entry up to an offset decides. Lists of ranges would need a case for each
+//! way in which ranges meet.
 ghost use Rattle.std.specs.Prelude.{◌≡◌, ◌==◌, ℕ, ◌<◌, ◌≤◌, ◌&&◌, nat_lt, false, if◌then◌else◌, Some, None, unwrap_or, MatchOption, OnOk, OnErr};
 ghost use Rattle.gfx_asked.specs.Bounds.{change_at, earlier, holds, with_range, IsSteady, IsNext};
 
@@ -78,7 +81,7 @@ fn drop_idle(bounds: &mut Bounds, place: u64, before: bool, held: bool)
     }
 }
 
-/// Puts the numbers of a range into the set, or takes them out. Ranges that touch become one. For want of memory the
+/// Puts the numbers of a range into the set, or takes them out. Ranges that touch become one. When out of memory the
 /// set is as it was.
 pub(crate) fn set(bounds: &mut Bounds, from: u64, to: u64, held: bool) -> Result<(), WantMemory>
     requires { from < to }

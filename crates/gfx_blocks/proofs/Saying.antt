@@ -18,7 +18,7 @@ use Rattle.gfx_blocks.specs.Payloads.{IsNumber, IsNoNumber}
 abbrev pub SaysNothing : (m kind : ℕ) → List ℕ → Fault → Type 0
 SaysNothing m kind bytes fault = (read_content m kind bytes ≡ None) × (fault ≡ payload_fault kind bytes)
 
--- ---- the number in front
+-- ---- the number before it
 
 short_steps : (b : Bool) (x : ℕ × List ℕ) → cond b None (Some x) ≡ None → b ≡ true
 short_steps true x is = refl
@@ -49,7 +49,7 @@ front_is bytes behind id is =
 not_four : (n : ℕ) → nat_lt n 4 ≡ true → nat_le 4 n ≡ false
 not_four n is = grind (arith, nat_tests)
 
--- ---- no number in front
+-- ---- no number before it
 
 unread : (m kind : ℕ) (bytes : List ℕ) → is_skipped kind bytes ≡ false → read_number w32 bytes ≡ None → read_content m kind bytes ≡ None
 unfolding read_content read_payload

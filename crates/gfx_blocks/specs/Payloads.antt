@@ -15,14 +15,14 @@ abbrev pub content_of : Block → Content
 content_of (block.Effect thread of_block) = effect thread (event_of of_block)
 content_of block.Skip = skipped
 
--- the payload of this type says what the answer is, or it says nothing, for the answered fault; memory is wanted only
+-- the payload of this type says what the answer is, or it says nothing, for the answered fault; memory is needed only
 -- for what a payload says
 abbrev pub SaysOrFails : Result Block BlockFault → (kind : ℕ) (payload : List ℕ) → Option Content → Type 0
 SaysOrFails (Ok found) kind payload said = said ≡ Some (content_of found)
 SaysOrFails (Err (Bad fault)) kind payload said = (said ≡ None) × (fault ≡ payload_fault kind payload)
 SaysOrFails (Err WantMemory) kind payload said = said ≢ None
 
--- the same of a block in minor version m
+-- what a block of this type with this payload says in minor version m, or why it says nothing
 abbrev pub Says : Result Block BlockFault → (m kind : ℕ) → List ℕ → Type 0
 Says answer m kind payload = SaysOrFails answer kind payload (read_content m kind payload)
 

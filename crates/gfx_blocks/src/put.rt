@@ -7,6 +7,7 @@ ghost use Rattle.gfx_grammar.specs.Framing.{CanBeWritten};
 
 use crate::framing::MARKER;
 use crate::header::{MAGIC, MAJOR};
+use gfx_io::{set_u32, set_u64};
 use gfx_params::{call_id, encode, encode_meta, meta_id};
 use gfx_types::{Effect, WantMemory};
 
@@ -16,19 +17,19 @@ const META: u32 = 3;
 /// The type of a call.
 const CALL: u32 = 4;
 
-/// Appends the header of a file of this minor version, without options. `out` is unchanged after want of memory.
+/// Appends the header of a file of this minor version, without options. `out` is unchanged when out of memory.
 pub fn put_header(minor: u32, out: &mut Vec<u8>) -> Result<(), WantMemory>
     ensures ok { OnOk result (out.new.items ≡ out.old.items ++ header minor) }
     ensures err { OnErr result (out.new.items ≡ out.old.items) }
 {
     let mut bytes = [0; 16];
-    bytes[..4].copy_from_slice(&MAGIC.to_le_bytes());
-    bytes[4..8].copy_from_slice(&MAJOR.to_le_bytes());
-    bytes[8..12].copy_from_slice(&minor.to_le_bytes());
+    set_u32(&mut bytes, 0, MAGIC);
+    set_u32(&mut bytes, 4, MAJOR);
+    set_u32(&mut bytes, 8, minor);
     put(&bytes, out)
 }
 
-/// Appends the block of an effect in a file of this minor version. `out` is unchanged after want of memory.
+/// Appends the block of an effect in a file of this minor version. `out` is unchanged when out of memory.
 pub fn put_block(
     minor: u32,
     thread: u64,
@@ -46,11 +47,11 @@ pub fn put_block(
         return Err(fault);
     }
     let size = (out.len() - start - 12) as u64;
-    out[start..start + 8].copy_from_slice(&size.to_le_bytes());
+    set_u64(out, start, size);
     Ok(())
 }
 
-/// Appends the block of an effect with 0 for its size. After want of memory some of it may stand behind the old bytes.
+/// Appends the block of an effect with 0 for its size. When out of memory some of it may follow the old bytes.
 fn put_unsized(
     minor: u32,
     thread: u64,
@@ -86,13 +87,13 @@ fn put_front(kind: u32, id: u32, number: u64, out: &mut Vec<u8>) -> Result<(), W
     ensures err { OnErr result (out.new.items ≡ out.old.items) }
 {
     let mut bytes = [0; 24];
-    bytes[8..12].copy_from_slice(&kind.to_le_bytes());
-    bytes[12..16].copy_from_slice(&id.to_le_bytes());
-    bytes[16..].copy_from_slice(&number.to_le_bytes());
+    set_u32(&mut bytes, 8, kind);
+    set_u32(&mut bytes, 12, id);
+    set_u64(&mut bytes, 16, number);
     put(&bytes, out)
 }
 
-/// Appends the bytes. `out` is unchanged after want of memory.
+/// Appends the bytes. `out` is unchanged when out of memory.
 fn put(bytes: &[u8], out: &mut Vec<u8>) -> Result<(), WantMemory>
     ensures ok { OnOk result (out.new.items ≡ out.old.items ++ bytes.now) }
     ensures err { OnErr result (out.new.items ≡ out.old.items) }

@@ -32,8 +32,8 @@ module _ (h h₁ h₂ h₃ : Hand Entry) (events : List Event) (got : h₁ ≡ a
   mine_more : h₂.mine ≡ h.mine ++ added.more
   mine_more = ap (λ z. z.mine) added.hand ∙ ap (λ z. z.mine ++ added.more) got
 
-  pub keeps : IsPrefix h.seen h₁.seen → Keeps h h₃
-  keeps before = record {
+  pub keeps : IsPrefix h.seen h₁.seen → h.known ≤ h₁.known → Keeps h h₃
+  keeps before known_before = record {
     thread = ap (λ z. z.thread) left ∙ (ap (λ z. z.thread) added.hand ∙ same);
     kind = ap (λ z. z.kind) left ∙ (ap (λ z. z.kind) added.hand ∙ ap (λ z. z.kind) got);
     drawn = ap (λ z. z.drawn) left ∙ (ap (λ z. z.drawn) added.hand ∙ ap (λ z. z.drawn) got);
@@ -42,6 +42,10 @@ module _ (h h₁ h₂ h₃ : Hand Entry) (events : List Event) (got : h₁ ≡ a
       before.0 ++ added.more,
       sym (append_assoc h.seen before.0 added.more) ∙ (ap (λ l. l ++ added.more) before.1 ∙ (sym seen_more ∙ sym all_seen)),
     );
+    known =
+        let whole : h₁.known ≡ length h₁.seen = ap (λ z. z.known) got in
+        let more : h₃.known ≡ length (h₁.seen ++ added.more) = ap (λ z. z.known) left ∙ ap (λ z. z.known) added.hand in
+        let long = length-append h₁.seen added.more in omega arith;
   }
 
   module _ (n : ℕ) (stand : Stand h₁.seen h₁.thread events n h₂.seen) where
@@ -88,7 +92,7 @@ module _ (h h₁ h₂ h₃ : Hand Entry) (events : List Event) (got : h₁ ≡ a
 -- ---- a call that found no memory for its block
 
 pub keeps_all : (h : Hand Entry) → h.stage ≡ Idle → Keeps h h
-keeps_all h idle = record { thread = refl; kind = refl; drawn = refl; stage = idle; before = ([], append-nil h.seen) }
+keeps_all h idle = record { thread = refl; kind = refl; drawn = refl; stage = idle; before = ([], append-nil h.seen); known = omega arith }
 
 pub nothing_done : (h : Hand Entry) (event : Event) → Tells h (event ∷ []) (Err (append.WantMemory 0)) h
 nothing_done h event = (omega arith, record { log = h.seen; seen = sym (append-nil h.seen); mine = sym (append-nil h.mine) })

@@ -4,7 +4,7 @@ use Rattle.std.specs.Int.{Width, w32, w64, byte_len, to_le_bytes, from_le_bytes}
 use Rattle.std.proofs.Math.Path.{ap₂}
 use Rattle.std.proofs.lemmas.Bool.{le-ltb}
 use Rattle.std.proofs.lemmas.List.{take_at, drop_at, take_all, drop-drop, take-append-drop, length-take-le}
-use borrow.Rule.Slice.PartMut.{put_mid}
+use lib.Seq.{paste}
 use Rattle.gfx_model.specs.Events.{Event}
 use Rattle.gfx_model.specs.Spelling.{encoding, type_of, id_of, payload, spelling}
 use Rattle.gfx_model.specs.Blocks.{size_field, type_field, payload_field, effect, skipped}
@@ -17,7 +17,7 @@ use Rattle.gfx_capture.specs.ThreadBuffer.{IsPut, IsPutOf, with_thread}
 use Rattle.gfx_log_law.proofs.Lengths.{encoding-length}
 use Rattle.gfx_capture.proofs.ThreadBytes.{can_write, payload-parts, payload-length}
 
--- ---- numbers at the front
+-- ---- numbers at the start
 
 pub number_is : (w : Width) (bytes : List ℕ) (n : ℕ) (rest : List ℕ) → read_number w bytes ≡ Some (n, rest) → (n ≡ from_le_bytes w (take (byte_len w) bytes)) × (rest ≡ drop (byte_len w) bytes)
 unfolding read_number
@@ -47,7 +47,7 @@ put_long m e bytes put =
     let eight : length (to_le_bytes w64 0) ≡ 8 = refl in
     omega (arith, ap length put.spelled, encoding-length m 0 e, parts, long, more, four, eight)
 
--- its type and what stands behind its head say its event
+-- its type and what follows its head say its event
 pub says : (m kind n : ℕ) (e : Event) (bytes behind load : List ℕ) → IsPutOf m e bytes → read_number w64 bytes ≡ Some (n, behind) → read_number w32 behind ≡ Some (kind, load)
     → read_content m kind load ≡ Some (effect 0 e)
 says m kind n e bytes behind load put first second =
@@ -99,9 +99,8 @@ under_thread m t e bytes put =
     ∙ sym (ap₂ (λ k l. to_le_bytes w64 k ++ to_le_bytes w32 (type_of e) ++ l) (payload-length m 0 t e other) parts ∙ simp append_assoc)
 
 -- the thread is written into the place of the old one
-pub placed : (t : ℕ) (old one mid size new : List ℕ) (a k n : ℕ) (behind : List ℕ) → 24 ≤ length one → a ≡ length old + 16 → mid ≡ old ++ one → new ≡ mid → k ≡ 8 → n ≡ length mid
-    → size ≡ to_le_bytes w64 t → take n (put_mid a k new size ++ behind) ≡ old ++ with_thread t one
-placed t old one mid size new a k n behind long from is same eight all written =
+pub placed : (t : ℕ) (old one mid : List ℕ) (a : ℕ) → 24 ≤ length one → a ≡ length old + 16 → mid ≡ old ++ one → paste mid a (to_le_bytes w64 t) 8 ≡ old ++ with_thread t one
+placed t old one mid a long from is =
     let p = take 16 one in
     let q = take 8 (drop 16 one) in
     let r = drop 24 one in
@@ -109,12 +108,8 @@ placed t old one mid size new a k n behind long from is same eight all written =
     let long_q : length q ≡ 8 = length-take-le 8 (drop 16 one) (omega (arith, length-drop 16 one)) in
     let cut : one ≡ p ++ (q ++ r) =
     sym (take-append-drop 16 one) ∙ ap (λ l. p ++ l) (sym (take-append-drop 8 (drop 16 one)) ∙ ap (λ l. q ++ l) (drop-drop 8 16 one)) in
-    let parts : new ≡ (old ++ p) ++ (q ++ r) = same ∙ is ∙ ap (λ l. old ++ l) cut ∙ sym (append_assoc old p (q ++ r)) in
+    let parts : mid ≡ (old ++ p) ++ (q ++ r) = is ∙ ap (λ l. old ++ l) cut ∙ sym (append_assoc old p (q ++ r)) in
     let place : length (old ++ p) ≡ a = omega (arith, length-append old p, long_p, from) in
-    let before : take a new ≡ old ++ p = ap (take a) parts ∙ take_at (old ++ p) (q ++ r) a place in
-    let after : drop k (drop a new) ≡ r = ap (drop k) (ap (drop a) parts ∙ drop_at (old ++ p) (q ++ r) a place) ∙ drop_at q r k (long_q ∙ sym eight) in
-    let made : put_mid a k new size ≡ (old ++ p) ++ (to_le_bytes w64 t ++ r) = ap₂ (λ u v. u ++ v) before (ap₂ (λ u v. u ++ v) written after) in
-    let eight_bytes : length (to_le_bytes w64 t) ≡ 8 = refl in
-    let whole : length ((old ++ p) ++ (to_le_bytes w64 t ++ r)) ≡ n =
-    omega (arith, length-append (old ++ p) (to_le_bytes w64 t ++ r), length-append (to_le_bytes w64 t) r, eight_bytes, place, from, all, ap length is, length-append old one, length-drop 24 one, long) in
-    ap (λ l. take n (l ++ behind)) made ∙ take_at ((old ++ p) ++ (to_le_bytes w64 t ++ r)) behind n whole ∙ append_assoc old p (to_le_bytes w64 t ++ r)
+    let before : take a mid ≡ old ++ p = ap (take a) parts ∙ take_at (old ++ p) (q ++ r) a place in
+    let after : drop (a + 8) mid ≡ r = sym (drop-drop 8 a mid) ∙ ap (drop 8) (ap (drop a) parts ∙ drop_at (old ++ p) (q ++ r) a place) ∙ drop_at q r 8 long_q in
+    ap₂ (λ u v. (u ++ to_le_bytes w64 t) ++ v) before after ∙ append_assoc (old ++ p) (to_le_bytes w64 t) r ∙ append_assoc old p (to_le_bytes w64 t ++ r)

@@ -20,7 +20,7 @@ use Rattle.gfx_capture.specs.Entry.{entry, entries_under}
 use Rattle.gfx_capture.specs.ThreadBuffer.{IsPutOf}
 use Rattle.gfx_capture.specs.Log.{IsSound}
 
--- the first n events stand under the thread at the end, and nothing else changed
+-- the first n events are under the thread at the end, and nothing else changed
 abbrev pub Stand : List Entry → ℕ → List Event → ℕ → List Entry → Type 0
 Stand before thread events n after = after ≡ before ++ entries_under thread (take n events)
 
@@ -29,7 +29,7 @@ pub record IsFaulty (m thread : ℕ) (log : List Entry) (event : Event) (f : Fau
   pub fits : log_length m log + call_length m thread event ≤ max_log
   pub fault_is : fault (history log) event ≡ Some f
 
--- the log has this length in bytes, and the event's block, of the length that is wanted, doesn't fit
+-- the log has this length in bytes, and the event's block, of the length that is needed, doesn't fit
 pub record IsFull (m thread : ℕ) (log : List Entry) (event : Event) (l wanted : ℕ) : Type 0 where
   pub length_is : l ≡ log_length m log
   pub wanted_is : wanted ≡ call_length m thread event

@@ -1,4 +1,4 @@
--- What contracts see of a log, and what stands in its fields.
+-- What contracts see of a log, and what is in its fields.
 use Rattle.std.specs.Prelude.{◌≡◌, ◌≤◌, ℕ, true, List, ◌++◌, length, drop}
 use Rattle.std.specs.List.{AllByRecursion}
 use Rattle.gfx_model.specs.Limits.{max_log}
@@ -20,7 +20,7 @@ pub record IsSound (m : ℕ) (log : List Entry) : Type 0 where
   pub small : log_length m log ≤ max_log
   pub written : AllByRecursion (λ e. CanBeWritten m e.thread e.event) log
 
--- the entries stand behind a header of sixteen bytes
+-- the entries follow a header of sixteen bytes
 abbrev pub logged : ℕ → ℕ → List ℕ → Logged
 logged m n bytes = record { minor = m; entries = entries_in m n (drop 16 bytes) }
 

@@ -11,17 +11,18 @@ use Rattle.gfx_seats.specs.Entries.{times, created}
 use Rattle.gfx_capture.specs.declared.answer.Receipt.{Receipt}
 use Rattle.gfx_capture.specs.declared.answer.AppendFault.{AppendFault}
 use Rattle.gfx_capture.specs.declared.answer.AppendFault.TheVariants as append
-use Rattle.gfx_capture.specs.Entry.{entries_under, event_ids, entry_ids}
+use Rattle.gfx_capture.specs.Entry.{entries_under, named_ids, entry_ids}
 use Rattle.gfx_capture.specs.Log.{IsSound}
 use Rattle.gfx_capture.specs.Append.{IsFaulty, IsFull, IsAt}
 
--- a pass keeps its thread, its minor version and its ids, has no turn, and has seen no less than before
+-- a pass keeps its thread, its minor version and its ids, has no turn, and has seen and knows of no less than before
 pub record Keeps (h h' : Hand Entry) : Type 0 where
   pub thread : h'.thread ≡ h.thread
   pub kind : h'.kind ≡ h.kind
   pub drawn : h'.drawn ≡ h.drawn
   pub stage : h'.stage ≡ Idle
   pub before : IsPrefix h.seen h'.seen
+  pub known : h.known ≤ h'.known
 
 -- what the pass has seen ends with the first n events under its thread, and of its own entries just these are new
 pub record Grew (h : Hand Entry) (events : List Event) (n : ℕ) (h' : Hand Entry) : Type 0 where
@@ -29,7 +30,7 @@ pub record Grew (h : Hand Entry) (events : List Event) (n : ℕ) (h' : Hand Entr
   pub seen : h'.seen ≡ log ++ entries_under h.thread (take n events)
   pub mine : h'.mine ≡ h.mine ++ entries_under h.thread (take n events)
 
--- they stand behind `from` entries, no fewer than the pass knew of, and what it has seen is a log
+-- they follow `from` entries, no fewer than the pass knew of, and what it has seen is a log
 pub record IsPlaced (h : Hand Entry) (events : List Event) (from n : ℕ) (h' : Hand Entry) : Type 0 where
   pub grew : Grew h events n h'
   pub known : h.known ≤ from
@@ -47,10 +48,10 @@ Tells h events (Err (append.LogFull l wanted done)) h' =
     × IsAt events done (λ event. IsFull h.kind h.thread h'.seen event l wanted)
 Tells h events (Err (append.WantMemory done)) h' = (done < length events) × Grew h events done h'
 
--- the ids that an event creates differ, and no entry of the pass creates one of them
-pub record AreNew (h : Hand Entry) (event : Event) : Type 0 where
-  pub distinct : is_distinct (event_ids event) ≡ true
-  pub unmade : (x : ℕ) → 0 < times x (event_ids event) → created entry_ids x h.mine ≡ 0
+-- the ids that events create differ, and no entry of the pass creates one of them
+pub record AreNew (h : Hand Entry) (events : List Event) : Type 0 where
+  pub distinct : is_distinct (named_ids events) ≡ true
+  pub unmade : (x : ℕ) → 0 < times x (named_ids events) → created entry_ids x h.mine ≡ 0
 
 -- it is not refused because an id is taken
 abbrev pub IsNotTaken : Result Receipt AppendFault → Type 0

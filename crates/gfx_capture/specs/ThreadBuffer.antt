@@ -1,4 +1,4 @@
--- What contracts see of a buffer, and what stands in its fields.
+-- What contracts see of a buffer, and what is in its fields.
 use Rattle.std.specs.Prelude.{◌≡◌, ◌≤◌, ℕ, ◌==◌, false, List, ◌++◌, map, length, take, drop}
 use Rattle.std.specs.Int.{to_le_bytes, w64}
 use Rattle.std.specs.List.{AllByRecursion}
@@ -48,6 +48,6 @@ pub record IsPutOf (m : ℕ) (e : Event) (block : List ℕ) : Type 0 where
 abbrev pub IsPut : ℕ → List ℕ → Type 0
 IsPut m block = (e : Event) × IsPutOf m e block
 
--- the block with another thread, which stands behind size, type and id
+-- the block with another thread, which follows size, type and id
 abbrev pub with_thread : ℕ → List ℕ → List ℕ
 with_thread thread block = take 16 block ++ (to_le_bytes w64 thread ++ drop 24 block)

@@ -4,7 +4,7 @@ ghost use Rattle.gfx_capture.specs.declared.answer.BlockFault.TheVariants.{WantM
 
 use gfx_types::{Fault, WantMemory};
 
-/// Effects that were appended: how many blocks stand before them, and how many they are.
+/// Effects that were appended: how many blocks are before them, and how many they are.
 #[derive(Clone, Copy, Debug, PartialEq, Eq)]
 pub struct Receipt {
     pub from: u64,

@@ -6,6 +6,7 @@ ghost use Rattle.gfx_capture.specs.Entry.{IsVersion};
 ghost use Rattle.gfx_capture.specs.ThreadBuffer.{IsPut, IsPutOf, with_thread};
 
 use gfx_blocks::{BlockFault, Framing, read_payload};
+use gfx_io::set_u64;
 use gfx_params::{front_u32, front_u64};
 use gfx_types::{Block, Effect, WantMemory};
 use std::alloc::Global;
@@ -13,10 +14,10 @@ use std::alloc::Global;
 /// The bytes of a block before its payload: its size and its type.
 const HEAD: usize = 12;
 
-/// Where the thread stands in a block: behind its head and its id.
+/// Where the thread is in a block: behind its head and its id.
 const THREAD: usize = HEAD + 4;
 
-/// The block at the front of the bytes, and what stands behind it.
+/// The block at the start of the bytes, and what follows it.
 pub(crate) fn split_block(bytes: &[u8]) -> (&[u8], &[u8])
     requires head { 12 ≤ length bytes.now }
     requires whole { 12 + size_field bytes.now ≤ length bytes.now }
@@ -53,7 +54,7 @@ pub(crate) fn read_back(alloc: Global, minor: u32, block: &[u8]) -> Result<Effec
     }
 }
 
-/// Appends a block under another thread. `out` is unchanged after want of memory.
+/// Appends a block under another thread. `out` is unchanged when out of memory.
 pub(crate) fn put_with_thread(
     thread: u32,
     block: &[u8],
@@ -65,7 +66,6 @@ pub(crate) fn put_with_thread(
 {
     let start = out.len();
     out.extend_from_slice(block)?;
-    let place = &mut out[start + THREAD..start + THREAD + 8];
-    place.copy_from_slice(&u64::from(thread).to_le_bytes());
+    set_u64(out, start + THREAD, u64::from(thread));
     Ok(())
 }

@@ -44,7 +44,7 @@ impl Capture {
         }
     }
 
-    /// The next id: another one for each call at this capture, with whatever pass. It takes no memory and waits for nobody.
+    /// The next id: another one for each call at this capture, with whatever pass. It takes no memory and never waits.
     pub fn draw(&self, pass: &mut Pass) -> u64
         requires capture { desk_of pass.old ≡ desk_id self.now.desk }
         requires few { length (hand pass.old).drawn < 2 ^ 32 }
@@ -56,8 +56,8 @@ impl Capture {
         self.desk.draw(pass)
     }
 
-    /// Appends an effect, or is refused for the history that the pass has seen then. The buffer is room for its block and
-    /// stays empty: a thread hands in the same one again. It may wait for other threads.
+    /// Appends an effect, or is refused for the history that the pass has seen then. The buffer is room for its block: it is
+    /// empty before and after, and a thread lends one buffer to all its calls. It may wait for other threads.
     pub fn call<R: Wait>(
         &self,
         rt: &R,
@@ -73,7 +73,7 @@ impl Capture {
         ensures capture { desk_of pass.new ≡ desk_of pass.old }
         ensures keeps { Keeps (hand pass.old) (hand pass.new) }
         ensures tells { Tells (hand pass.old) (event_of effect.now ∷ []) result (hand pass.new) }
-        ensures new_ids { AreNew (hand pass.old) (event_of effect.now) → IsNotTaken result }
+        ensures new_ids { AreNew (hand pass.old) (event_of effect.now ∷ []) → IsNotTaken result }
         ensures buffer { (buffer.new.minor ≡ buffer.old.minor) × (buffer.new.events ≡ []) }
     {
         if buffer.put(effect).is_err() {
@@ -98,6 +98,7 @@ impl Capture {
         ensures capture { desk_of pass.new ≡ desk_of pass.old }
         ensures keeps { Keeps (hand pass.old) (hand pass.new) }
         ensures tells { Tells (hand pass.old) buffer.now.events result (hand pass.new) }
+        ensures new_ids { AreNew (hand pass.old) buffer.now.events → IsNotTaken result }
     {
         let mut turn = self.desk.turn(rt, pass);
         let answer = turn.append(&self.desk, pass, buffer);
@@ -105,7 +106,7 @@ impl Capture {
         answer
     }
 
-    /// How many blocks the log has at least. It takes no memory and waits for nobody.
+    /// How many blocks the log has at least. It takes no memory and never waits.
     pub fn written(&self, pass: &mut Pass) -> u64
         requires capture { desk_of pass.old ≡ desk_id self.now.desk }
         ensures capture { desk_of pass.new ≡ desk_of pass.old }
@@ -116,7 +117,7 @@ impl Capture {
         self.desk.written(pass)
     }
 
-    /// From then on both passes have seen the longer of their two histories. It takes no memory and waits for nobody.
+    /// From then on both passes have seen the longer of their two histories. It takes no memory and never waits.
     pub fn meet(&self, one: &mut Pass, other: &mut Pass)
         requires one_capture { desk_of one.old ≡ desk_id self.now.desk }
         requires other_capture { desk_of other.old ≡ desk_id self.now.desk }

@@ -1,4 +1,4 @@
-//! A capture: each thread calls with a pass of its own, and all their effects stand in one log.
+//! A capture: each thread calls with a pass of its own, and all their effects are in one log.
 #![tactic(auto)]
 
 mod answer;

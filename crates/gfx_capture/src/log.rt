@@ -1,4 +1,7 @@
 //! The log: one file of the blocks of all threads.
+//!
+//! A block is copied to the end, then the tracker takes its effect, and then it is counted. Where the tracker refuses,
+//! the copy is cut off, which takes no memory.
 ghost use Rattle.std.specs.Prelude.{◌≡◌, ℕ, [], ◌++◌, ◌≤◌, length, IfOk};
 ghost use Rattle.gfx_model.specs.Events.{Event};
 ghost use Rattle.gfx_model.specs.Limits.{max_log};
@@ -135,7 +138,7 @@ impl Log {
     }
 }
 
-/// Has the tracker take the effect of a block. Nobody asks for its operations.
+/// Has the tracker take the effect of a block. Nothing asks for its operations.
 fn take_block(
     alloc: Global,
     minor: u32,

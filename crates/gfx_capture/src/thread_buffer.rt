@@ -1,4 +1,7 @@
 //! Effects of one thread that are appended together.
+//!
+//! Effects borrow their bytes from the caller, so a buffer keeps blocks, under thread 0; the log writes the thread's
+//! number into its copy.
 ghost use Rattle.std.specs.Prelude.{◌≡◌, ◌<◌, ◌++◌, [], ◌∷◌, ℕ, length, OnOk, OnErr};
 ghost use Rattle.std.specs.List.{AllByRecursion};
 ghost use Rattle.gfx_model.specs.Events.{event_of};
@@ -46,7 +49,7 @@ impl ThreadBuffer {
         }
     }
 
-    /// Adds an effect at the end. After want of memory the buffer is as it was. It waits for nobody.
+    /// Adds an effect at the end. When out of memory the buffer is as it was. It never waits.
     pub fn put(&mut self, effect: &Effect<'_>) -> Result<(), WantMemory>
         requires room { length self.old.events < max_events }
         requires fits { CanBePut self.old.minor (event_of effect.now) }

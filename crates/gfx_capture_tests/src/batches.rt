@@ -103,7 +103,7 @@ fn barriers_stand_in_batches(rt: HostRuntime) -> Result<(), Fail> {
 /// The id of a barrier.
 const BARRIER: u32 = 26;
 
-/// The barriers of each batch stand side by side: no other block comes between.
+/// The barriers of each batch are side by side: no other block comes between.
 fn assert_whole<R: Abort>(rt: &R, file: &[u8], each: u64)
     requires { 1 ≤ each }
 {

@@ -13,12 +13,12 @@ pub struct Stood {
     pub id: u32,
 }
 
-/// What stands behind the header.
+/// What follows the header.
 pub fn behind_header<'a, R: Abort>(rt: &R, file: &'a [u8]) -> &'a [u8] {
     file.get(HEADER..).expect(rt, "a header")
 }
 
-/// The block at the front of the bytes, and what stands behind it. None where there are no bytes.
+/// The block at the start of the bytes, and what follows it. None where there are no bytes.
 pub fn split_block<'a, R: Abort>(rt: &R, bytes: &'a [u8]) -> Option<(Stood, &'a [u8])> {
     if bytes.is_empty() {
         return None;

@@ -32,7 +32,7 @@ const AFTER: [u32; 3] = [19, 6, 2];
 /// A call, and the fault for which it is refused.
 type Step = (Use, Option<Fault>);
 
-/// Makes the calls one after another, and gives the number of the block behind those that stand before the last answer.
+/// Makes the calls one after another, and gives the number of the block behind those that are before the last answer.
 fn make_all<R: Abort + Wait>(
     rt: &R,
     alloc: Global,

@@ -55,7 +55,7 @@ fn act_both<R: Abort + Wait>(rt: &R, alloc: Global, capture: &Capture, callers: 
     act(rt, alloc, capture, first, second);
 }
 
-/// Both blocks stand under their threads.
+/// Both blocks are under their threads.
 fn assert_both<R: Abort>(rt: &R, log: &Log) {
     assert_eq!(rt; log.blocks(), 2);
     let bytes = log.bytes();

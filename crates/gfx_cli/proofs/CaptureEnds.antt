@@ -65,7 +65,7 @@ bad_ends r before after ReadFault line kind bytes rest fault is reads writes = a
 bad_ends r before after SinkFault line kind bytes rest fault is reads writes = absurd (writes refl)
 bad_ends r before after WantMemory line kind bytes rest fault is reads writes = inl refl
 
--- ---- a front of what is written
+-- ---- a prefix of what is written
 
 -- of a run that is so, so it is in other words
 run_weaker : (gathers : Bool) (P Q : ℕ → List (List Part) → List Entry → Type 0) (bytes rest : List ℕ) → ((m : ℕ) (phases : List (List Part)) (log : List Entry) → P m phases log → Q m phases log)
@@ -88,7 +88,7 @@ front_of r before after ReadFault bytes rest is none = inl none
 front_of r before after SinkFault bytes rest is none = inr is
 front_of r before after WantMemory bytes rest is none = is
 
--- nothing was written, or a front of what is written of the log
+-- nothing was written, or a prefix of what is written of the log
 pub front_told : (r : Recording) (before after left rest : Option (List ℕ)) (why : RecordingFault) → IfTold left rest (Ends r before after (Err why))
     → Leaves (Err why) (after ≡ before) → (after ≡ before) ⊎ IfTold left rest (IsRun r.gathers (TookFront r.frames before after))
 front_told r before after None rest why ends none = inr tt

@@ -66,7 +66,7 @@ of_captures why result line same failed (inl is) = subst IsOfCaptures (sym is.0)
 of_captures why result line same failed (inr (inl is)) = subst IsOfCaptures (sym is.0) tt
 of_captures why result line same failed (inr (inr is)) = subst IsOfCaptures (sym is.0) tt
 
--- where no write failed, a fault is want of memory or one that is told
+-- where no write failed, a fault is a lack of memory or one that is told
 pub fault_exactly : (Line : List ℕ → Type 0) (why wanted : RecordingFault) (result : Status) (same failed : Type 0) → IsToldBy result (status_of why) (Line (line_of why)) same failed
     → (why ≡ WantMemory → result ≡ status.WantMemory) → ¬ failed → (why ≡ WantMemory) ⊎ (why ≡ wanted) → (result ≡ status.WantMemory) ⊎ ((result ≡ status_of wanted) × Line (line_of wanted))
 fault_exactly Line why wanted result same failed is silent none (inl want) = inl (silent want)

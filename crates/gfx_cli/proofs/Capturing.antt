@@ -27,7 +27,7 @@ pub record AskFor (words : List (List ℕ)) (r : Recording) : Type 0 where
   pub asked : IsAsked words r
   pub only : IsOnlyAsked words r
 
--- words that ask for no recording, and the usage line or a front of it
+-- words that ask for no recording, and the usage line or a prefix of it
 pub unasked : {S K N : Type 0} (words : List (List ℕ)) (source : S) (read : Option (List ℕ)) (reads : ℕ) (sink : K) (taken : Option (List ℕ)) (writes : ℕ) (notes : Seen N) (result : Status)
     → IsUnasked words → ((result ≡ status.Usage) × Appends notes.bytes_before notes.bytes_now usage_line) ⊎ ((result ≡ status.WriteFault) × Failed notes)
     → AppendsPart notes.bytes_before notes.bytes_now usage_line → notes.faults_before ≤ notes.faults_now

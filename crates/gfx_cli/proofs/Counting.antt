@@ -71,7 +71,7 @@ pub record HasCounted (counts : Counts) (fed : List Whole) : Type 0 where
   pub calls : counts.calls ≡ count_by (λ w. is_call w.content) fed
   pub frames : counts.frames ≡ count_by (λ w. is_present w.content) fed
 
--- a decoder stands behind the blocks that were counted
+-- a decoder follows the blocks that were counted
 pub record Counted (counts : Counts) (stage : Stage) (all rest : List ℕ) : Type 0 where
   pub fed : List Whole
   pub file : IsFed fed stage all rest

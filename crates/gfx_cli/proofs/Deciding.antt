@@ -122,7 +122,7 @@ same_line Unlists line other bytes is so = ap BadListing (one_bad_line bytes lin
 same_line Info line other bytes is so = absurd is
 same_line _ line other bytes is so = absurd is
 
--- a file that has all stops a command for a fault of the source, of the sink, or for want of memory alone
+-- a file that has all stops a command for a fault of the source, of the sink, or when out of memory alone
 pub good_stops : (c : Command) (before after : Option (List ℕ)) (stop : Stop) (all rest : List ℕ) → IsGood c all → Stops c before after stop all rest
     → ¬ (stop ≡ ReadFault) → ¬ (stop ≡ WriteFault) → stop ≡ WantMemory
 good_stops c before after (BadFile fault block offset) all rest good is reads writes = absurd (good_not_bad c fault block offset all good is.0)

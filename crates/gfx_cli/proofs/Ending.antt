@@ -82,7 +82,7 @@ info_part counts before after all rest told text = subst (AppendsPart before aft
 none_taken : (before after : Option (List ℕ)) → after ≡ before → Appends before after []
 none_taken before after same = subst (λ a. Appends before a []) (sym same) (appends_none before)
 
--- a front of a lean file
+-- a prefix of a lean file
 lean_part : (r : FrameRange) (before after : Option (List ℕ)) (all : List ℕ) → lean.IsPart r.first r.last before after all → Writes (Lean r) (AppendsPart before after) all
 lean_part r before after all is = (is.out, is.took, is.lean)
 
@@ -100,7 +100,7 @@ lean_fails play.WantMemory r before after all rest (inr is) = inr (lean_part r b
 
 -- ---- `unlist`
 
--- a front of what first lines list is a front of what the text lists
+-- a prefix of what first lines list is a prefix of what the text lists
 unlist_part : (before after : Option (List ℕ)) (lines : List (List ℕ)) (rest text : List ℕ) → BeginsWith lines rest text → AppendsPart before after (bytes_in lines) → AppendsPart before after (unlisted text)
 unlist_part before after lines rest text begins part =
     let front = fronts lines rest text begins in
@@ -165,7 +165,7 @@ pub told_same : (a : Option (List ℕ)) (P : List ℕ → List ℕ → Type 0) �
 told_same None P each = tt
 told_same (Some x) P each = each x
 
--- ---- a front of what a command writes
+-- ---- a prefix of what a command writes
 
 lines_first : (pixels : Bool) (frames : Option FrameRange) (before after : Option (List ℕ)) (bytes : List ℕ) → Appends before after (lines_in (asked_by frames) pixels bytes) → AppendsPart before after (text_in (asked_by frames) pixels bytes)
 unfolding lines_of
@@ -183,7 +183,7 @@ text_first (Make n) before after bytes text = inl text
 text_first Help before after bytes text = inl text
 text_first Version before after bytes text = inl text
 
--- all of what a command writes is a front of it
+-- all of what a command writes is a prefix of it
 all_first : (c : Command) (before after : Option (List ℕ)) (bytes : List ℕ) → Writes c (Appends before after) bytes → Writes c (AppendsPart before after) bytes
 all_first Info before after bytes text = whole_part before after _ text
 all_first (Replay pixels frames) before after bytes text = whole_part before after _ text

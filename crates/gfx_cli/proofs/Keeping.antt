@@ -17,7 +17,7 @@ use Rattle.gfx_cli.specs.declared.stop.Stop.{Stop}
 use Rattle.gfx_cli.specs.declared.stop.Stop.TheVariants as stop
 use Rattle.gfx_cli.proofs.Ending.{text_ends, told_same}
 
--- a source, a sink or notes that nobody touched
+-- a source, a sink or notes that nothing touched
 abbrev pub untouched : {T : Type 0} → T → Option (List ℕ) → ℕ → Seen T
 untouched it bytes faults = record { before = it; now = it; bytes_before = bytes; bytes_now = bytes; faults_before = faults; faults_now = faults }
 

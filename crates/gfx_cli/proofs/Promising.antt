@@ -35,7 +35,7 @@ runs : {S K : Type 0} (words : List (List ℕ)) (c : Command) (source : Seen S) 
     → Runs words source.bytes_before source.bytes_now sink.bytes_before sink.bytes_now end
 runs words c source sink end are kept = record { command = c; named = are.named; ends = kept.ends }
 
--- and the sink took a front of what it writes
+-- and the sink took a prefix of what it writes
 takes_front : {S K : Type 0} (words : List (List ℕ)) (c : Command) (source : Seen S) (sink : Seen K) (end : Result Unit Stop) → AreOf words c → KeepsCommand c source sink end
     → WritesFront words source.bytes_before source.bytes_now sink.bytes_before sink.bytes_now
 takes_front words c source sink end are kept =
@@ -64,7 +64,7 @@ shows_as c other source sink same kept =
 
 -- ---- the three ends of a run
 
--- words of no command, and the usage line or a front of it
+-- words of no command, and the usage line or a prefix of it
 pub refused : {S K N : Type 0} (words : List (List ℕ)) (source : S) (read : Option (List ℕ)) (reads : ℕ) (sink : K) (taken : Option (List ℕ)) (writes : ℕ) (notes : Seen N) (result : Status)
     → IsOutside words → ((result ≡ status.Usage) × Appends notes.bytes_before notes.bytes_now usage_line) ⊎ ((result ≡ status.WriteFault) × Failed notes)
     → AppendsPart notes.bytes_before notes.bytes_now usage_line → notes.faults_before ≤ notes.faults_now

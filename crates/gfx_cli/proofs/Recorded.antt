@@ -44,7 +44,7 @@ lacks_by : (frames : Option FrameRange) (before after : Option (List ℕ)) (firs
 lacks_by None before after first last log wrote = absurd wrote
 lacks_by (Some r) before after first last log (left, is) = subst (IsWithout r.first r.last before after first last (log_file log.minor log.entries)) is.read is
 
--- a front of it was written
+-- a prefix of it was written
 part_by : (frames : Option FrameRange) (before after : Option (List ℕ)) (log : Logged) → WritesAsked (asked_by frames) before after log (Err SinkFault)
     → AppendsPart before after (written_of frames (log_file log.minor log.entries))
 part_by None before after log wrote = wrote
@@ -72,7 +72,7 @@ halted_by : (why fault : RecordingFault) (m : ℕ) (phases : List (List Part)) (
 halted_by why fault m phases entries before after file other halts (inl (same, took)) = (subst (λ f. Halts f m phases entries) (sym same) halts, took)
 halted_by why fault m phases entries before after file other halts (inr (same, part)) = absurd (other same)
 
--- or a front of it was written
+-- or a prefix of it was written
 front_by : (why : RecordingFault) (before after : Option (List ℕ)) (file : List ℕ) → why ≢ SinkFault → TookThen why before after file (Err SinkFault) → AppendsPart before after file
 front_by why before after file other (inl (same, took)) = absurd (other (sym same))
 front_by why before after file other (inr (same, part)) = part

@@ -109,20 +109,20 @@ by_cause stop result line same failed cause (inl is) so own = inl (own (write_to
 by_cause stop result line same failed cause (inr (inl is)) so own = let e : status.WantMemory ≡ status.WriteFault = sym is.0 ∙ so in absurd cc
 by_cause stop result line same failed cause (inr (inr is)) so own = inr is.1
 
--- where no write failed, a stop is want of memory or one that is told
+-- where no write failed, a stop is a lack of memory or one that is told
 pub told_exactly : (Line : List ℕ → Type 0) (stop wanted : Stop) (result : Status) (same failed : Type 0) → IsToldBy result (status_of stop) (Line (line_of stop)) same failed
     → (stop ≡ WantMemory → result ≡ status.WantMemory) → ¬ failed → (stop ≡ WantMemory) ⊎ (stop ≡ wanted) → (result ≡ status.WantMemory) ⊎ ((result ≡ status_of wanted) × Line (line_of wanted))
 told_exactly Line stop wanted result same failed told silent none (inl want) = inl (silent want)
 told_exactly Line stop wanted result same failed told silent none (inr is) =
     told_or_wanting result (status_of wanted) (Line (line_of wanted)) same failed (subst (λ s. IsToldBy result (status_of s) (Line (line_of s)) same failed) is told) none
 
--- a command ends with the status of its stop, for want of memory, or as a write failed
+-- a command ends with the status of its stop, when out of memory, or as a write failed
 pub ends_so : (c : Command) (stop : Stop) (result : Status) (line same failed : Type 0) → MayStop c stop → IsToldBy result (status_of stop) line same failed → MayEnd c result
 ends_so c stop result line same failed may (inl is) = subst (MayEnd c) (sym is.0) may
 ends_so c stop result line same failed may (inr (inl is)) = subst (MayEnd c) (sym is.0) tt
 ends_so c stop result line same failed may (inr (inr is)) = subst (MayEnd c) (sym is.0) tt
 
--- where no write failed, it is want of memory
+-- where no write failed, it is a lack of memory
 pub text_wants : (stop : Stop) → IsUnwritten stop → ¬ (stop ≡ WriteFault) → stop ≡ WantMemory
 text_wants (BadFile fault block offset) why none = absurd why
 text_wants (NoSuchFrame first last) why none = absurd why

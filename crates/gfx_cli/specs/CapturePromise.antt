@@ -65,7 +65,7 @@ pub record KeepsCapture {S K N : Type 0} (words : List (List ℕ)) (source : See
   pub unwritten : (result ≡ status.BadScript) ⊎ (result ≡ status.ReadFault) → sink.now ≡ sink.before
   pub write_fault : result ≡ status.WriteFault → Failed sink ⊎ Failed notes
   pub later : (source.faults_before ≤ source.faults_now) × (sink.faults_before ≤ sink.faults_now) × (notes.faults_before ≤ notes.faults_now)
-  -- where it isn't done the sink took a front of what is written of the log, and the notes in any case a front of the line that there was a reason for
+  -- where it isn't done the sink took a prefix of what is written of the log, and the notes in any case a prefix of the line that there was a reason for
   pub front : (result ≡ status.Done → ⊥) → (sink.bytes_now ≡ sink.bytes_before)
       ⊎ LeavesFront words source.bytes_before source.bytes_now sink.bytes_before sink.bytes_now
   pub noted : (notes.now ≡ notes.before) ⊎ ((line : List ℕ) × IsCaptureNote words source.bytes_before source.bytes_now

@@ -33,7 +33,7 @@ pub record Captures (words : List (List ℕ)) (left_old left_new taken_old taken
   pub asked : IsAsked words recording
   pub ends : IfTold left_old left_new (Ends recording taken_old taken_new end)
 
--- the words ask for a recording, and the sink took a front of what is written of a log of the script
+-- the words ask for a recording, and the sink took a prefix of what is written of a log of the script
 pub record LeavesFront (words : List (List ℕ)) (left_old left_new taken_old taken_new : Option (List ℕ)) : Type 0 where
   pub recording : Recording
   pub asked : IsAsked words recording

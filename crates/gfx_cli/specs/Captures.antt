@@ -64,7 +64,7 @@ abbrev pub written_of : Option FrameRange → List ℕ → List ℕ
 written_of None file = file
 written_of (Some r) file = written r.first r.last file
 
--- the sink took a front of what is written of a log: of one in which a call was not accepted that is the whole file
+-- the sink took a prefix of what is written of a log: of one in which a call was not accepted that is the whole file
 abbrev pub TookFront : Option FrameRange → Option (List ℕ) → Option (List ℕ) → ℕ → List (List Part) → List Entry → Type 0
 TookFront frames before after m phases log =
     (IsWhole m phases log × AppendsPart before after (written_of frames (log_file m log)))
@@ -90,7 +90,7 @@ Ends r before after (Err WantMemory) bytes rest = (after ≡ before) ⊎ IsRun r
 abbrev pub IsFault : ℕ → ScriptKind → List ℕ → Type 0
 IsFault line kind bytes = ParsesAs (take (max_script + 1) bytes) (fails line (kind_of kind))
 
--- nothing but want of memory stopped the recording, by the status
+-- only a lack of memory stopped the recording, by the status
 abbrev pub IsUnstoppedAt : Status → Type 0
 IsUnstoppedAt status.Done = ⊤
 IsUnstoppedAt status.WantMemory = ⊤

@@ -68,11 +68,11 @@ IsSomeListing text = (bytes : List ℕ) × AreBytes bytes × IsListing bytes tex
 abbrev pub HasFrames : FrameRange → List ℕ → Type 0
 HasFrames r bytes = trim.IsInside r.first r.last (history_in bytes)
 
--- its first bad block stands before the last frame of a range, and this is it
+-- its first bad block is before the last frame of a range, and this is it
 abbrev pub IsBadBefore : FrameRange → Fault → ℕ → ℕ → List ℕ → Type 0
 IsBadBefore r fault block offset bytes = (end_of bytes ≡ bad fault block offset) × trim.IsOutside r.first r.last (history_in bytes)
 
--- in these bytes stands neither a bad block nor the last frame of a range, and the next block isn't whole
+-- in these bytes is neither a bad block nor the last frame of a range, and the next block isn't whole
 abbrev pub GoesOnBefore : FrameRange → List ℕ → Type 0
 GoesOnBefore r read = IsUnfinished (blocks_of read).items read × (end_of read ≡ (blocks_of read).end) × trim.IsOutside r.first r.last (history_in read)
 

@@ -8,7 +8,7 @@ use Rattle.gfx_cli.specs.declared.stop.Stop.TheVariants.{WantMemory, BadFile, No
 use Rattle.gfx_cli.specs.Commands.{GoesOn, IsGood, IsBad, IsBadLine, LacksFrame, Leaves, Reads, Writes, text_before}
 use Rattle.gfx_cli.specs.Stop.{IsUnwritten}
 
--- nothing was written, or a front of what the command writes
+-- nothing was written, or a prefix of what the command writes
 abbrev pub WritesPart : Command → Option (List ℕ) → Option (List ℕ) → List ℕ → Type 0
 WritesPart c before after bytes = Appends before after [] ⊎ Writes c (AppendsPart before after) bytes
 
@@ -18,14 +18,14 @@ pub record IsDone (c : Command) (before after : Option (List ℕ)) (bytes left :
   pub leaves : Leaves c bytes left
   pub text : Writes c (Appends before after) bytes
 
--- what stands before the place where reading stopped was written, and nothing there stops the command
+-- what is before the place where reading stopped was written, and nothing there stops the command
 pub record IsCutOff (c : Command) (before after : Option (List ℕ)) (bytes left : List ℕ) : Type 0 where
   pub reads : Reads c
   pub read : List ℕ
   pub parts : bytes ≡ read ++ left
   pub going : GoesOn c read
   pub text : Appends before after (text_before c read)
-  -- which is a front of the command's text
+  -- which is a prefix of the command's text
   pub front : WritesPart c before after bytes
 
 -- why a command stopped, and what it wrote by then

@@ -30,7 +30,7 @@ pub record KeepsFiles {S K N : Type 0} (words : List (List ℕ)) (source : Seen 
   pub refused : IsOutside words → ((result ≡ status.Usage) ⊎ (result ≡ status.WriteFault)) × (source.now ≡ source.before) × (sink.now ≡ sink.before)
   -- a command that reads no file leaves the source alone
   pub unread : (command : Command) → IsNamed words command → ¬ Reads command → source.now ≡ source.before
-  -- it is promised of any source: its text, and that just want of memory or a failed write stops it
+  -- it is promised of any source: its text, and that just a lack of memory or a failed write stops it
   pub alone : (command : Command) → IsNamed words command → ¬ Reads command
       → RunsAlone command sink.bytes_before sink.bytes_now result × (¬ Failed sink → (result ≡ status.Done) ⊎ (result ≡ status.WantMemory))
   -- a command ends with statuses of its own alone
@@ -53,7 +53,7 @@ pub record KeepsFiles {S K N : Type 0} (words : List (List ℕ)) (source : Seen 
       → IfTold source.bytes_before source.bytes_now (λ text left. IsUnlisted (Appends sink.bytes_before sink.bytes_now) text left)
   pub complete : (command : Command) → IsNamed words command → IsTold source.bytes_before → IfSome source.bytes_before (IsGood command)
       → ¬ Failed source → ¬ Failed sink → (result ≡ status.Done) ⊎ (result ≡ status.WantMemory)
-  -- a file is bad exactly where its first bad block is within what the command reads; it is noted, and the sink has what stands before it
+  -- a file is bad exactly where its first bad block is within what the command reads; it is noted, and the sink has what is before it
   pub bad_file : result ≡ status.BadFile → (fault : Fault) × (block : ℕ) × (offset : ℕ)
       × Runs words source.bytes_before source.bytes_now sink.bytes_before sink.bytes_now (Err (stop.BadFile fault block offset))
       × Appends notes.bytes_before notes.bytes_now (bad_line fault block offset)
@@ -77,16 +77,16 @@ pub record KeepsFiles {S K N : Type 0} (words : List (List ℕ)) (source : Seen 
       → IsNamed words command → IsTold source.bytes_before → IfSome source.bytes_before (IsBadLine command line)
       → ¬ Failed source → ¬ Failed sink → ¬ Failed notes
       → (result ≡ status.WantMemory) ⊎ ((result ≡ status.BadListing) × Appends notes.bytes_before notes.bytes_now (bad_listing_line line))
-  -- a fault of the source or of a sink is one that was counted in this call; after a failed read the sink has what stands before the place
+  -- a fault of the source or of a sink is one that was counted in this call; after a failed read the sink has what is before the place
   -- where reading stopped, and nothing there stops the command
   pub read_fault : result ≡ status.ReadFault → Failed source
       × Runs words source.bytes_before source.bytes_now sink.bytes_before sink.bytes_now (Err stop.ReadFault)
       × Appends notes.bytes_before notes.bytes_now read_fault_line
-  -- after a failed write of its answer the sink has a front of what the command writes; `lean` writes nothing before it found the range in the file
+  -- after a failed write of its answer the sink has a prefix of what the command writes; `lean` writes nothing before it found the range in the file
   pub write_fault : result ≡ status.WriteFault
       → (Failed sink × Runs words source.bytes_before source.bytes_now sink.bytes_before sink.bytes_now (Err stop.WriteFault)) ⊎ Failed notes
   pub later : (source.faults_before ≤ source.faults_now) × (sink.faults_before ≤ sink.faults_now) × (notes.faults_before ≤ notes.faults_now)
-  -- in any case the sink took a front of what the command writes, and the notes a front of the line that there was a reason for
+  -- in any case the sink took a prefix of what the command writes, and the notes a prefix of the line that there was a reason for
   pub front : (sink.now ≡ sink.before) ⊎ WritesFront words source.bytes_before source.bytes_now sink.bytes_before sink.bytes_now
   pub noted : (notes.now ≡ notes.before) ⊎ ((line : List ℕ) × IsNote words source.bytes_before source.bytes_now
       sink.bytes_before sink.bytes_now (record { before = source.faults_before; now = source.faults_now }) line

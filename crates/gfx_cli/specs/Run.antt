@@ -37,7 +37,7 @@ pub record Runs (words : List (List ℕ)) (left_old left_new taken_old taken_new
   pub named : IsNamed words command
   pub ends : IfTold left_old left_new (Ends command taken_old taken_new end)
 
--- the words name a command, and the sink took a front of what it writes
+-- the words name a command, and the sink took a prefix of what it writes
 pub record WritesFront (words : List (List ℕ)) (left_old left_new taken_old taken_new : Option (List ℕ)) : Type 0 where
   pub command : Command
   pub named : IsNamed words command
@@ -61,7 +61,7 @@ MayEnd c BadListing = c ≡ Unlists
 abbrev pub MayStop : Command → Stop → Type 0
 MayStop c why = MayEnd c (status_of why)
 
--- a command that reads no file wrote its text, or a front of it
+-- a command that reads no file wrote its text, or a prefix of it
 pub record RunsAlone (c : Command) (taken_old taken_new : Option (List ℕ)) (status : Status) : Type 0 where
   pub text : status ≡ Done → Writes c (Appends taken_old taken_new) []
   pub front : Writes c (AppendsPart taken_old taken_new) []

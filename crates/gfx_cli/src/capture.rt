@@ -43,7 +43,7 @@ fn record_frames<R: Threads + Wait + Sync, S: Source, K: Sink, G: Gate + Sync>(
 }
 
 /// Reads a script to its end, runs its threads, and writes the log that they leave, over a source and two sinks. It may wait. What
-/// it promises stands in `KeepsCapture`.
+/// it promises is in `KeepsCapture`.
 pub fn run_capture<R: Threads + Wait + Sync, S: Source, K: Sink, N: Sink, G: Gate + Sync>(
     rt: &R,
     alloc: Global,

@@ -34,7 +34,7 @@ fn ends_frame(call: &Call<'_>) -> bool
 }
 
 impl Counts {
-    /// Counts one block more, and lets go of it.
+    /// Counts one block more, and drops it.
     fn add(self, raw: Raw<'_>) -> Self
         requires { (self.blocks < 2 ^ 34) × (self.calls ≤ self.blocks) × (self.frames ≤ self.blocks) }
         ensures { result ≡ with_block self (content_of raw.entry.block) }

@@ -14,7 +14,7 @@ use std::alloc::Global;
 use std::thread::Threads;
 
 /// Runs `digests`, which writes what `replay` writes, over a source and two sinks, one for its answer and one for notes. What it
-/// promises stands in `KeepsFan`.
+/// promises is in `KeepsFan`.
 pub fn run_fan<R: Threads + Sync, S: Source, K: Sink, N: Sink>(
     rt: &R,
     alloc: Global,

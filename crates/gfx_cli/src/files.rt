@@ -13,7 +13,7 @@ use std::alloc::Global;
 pub(crate) const USAGE: &str =
     "usage: gfxcap info; replay [--pixels] [--frames A-B]; trim A-B; capture [--gather] [--frames A-B]; make N; upgrade; lean A-B; list; unlist; digests\n";
 
-/// Runs a command over a source and two sinks, one for its answer and one for notes. What it promises stands in `KeepsFiles`.
+/// Runs a command over a source and two sinks, one for its answer and one for notes. What it promises is in `KeepsFiles`.
 pub fn run_files<S: Source, K: Sink, N: Sink>(
     alloc: Global,
     words: &[String],

@@ -1,4 +1,7 @@
 // All commands of the program.
+//
+// `run_capture` may wait and starts threads; `run_files` has no leave for either, so it always returns. `run` promises
+// what each of them does.
 ghost use Rattle.std.specs.Prelude.{◌≡◌, [], Ok, get_or, map, string_bytes};
 ghost use Rattle.gfx_io.specs.Told.{IfTold};
 ghost use Rattle.gfx_trim.specs.Keeps.{Keeps};

@@ -97,7 +97,7 @@ impl From<AllocError> for Stop {
 impl From<Failed> for Stop {
     ghost from_gives = { λ _ stop. stop ≡ NotWritten };
 
-    /// What a command hands on is a failed write; a failed read is a fault of its decoder.
+    /// What a command passes on is a failed write; a failed read is a fault of its decoder.
     fn from(_: Failed) -> Self {
         Stop::WriteFault
     }

@@ -31,7 +31,7 @@ const THREE: &[&[u8]] = &[
     OBJECTS, BEGIN, BARRIER, COPY, END, DRAW, PRESENT, RESET, DRAW, PRESENT, RESET, DRAW, PRESENT,
 ];
 
-/// The same in version 2.
+/// A script of three frames in version 2.
 const THREE_2: &[&[u8]] = &[
     b"version 2\n",
     OBJECTS,
@@ -76,7 +76,7 @@ const FILLS: [&str; 2] = [
     "2500000000000000030000000200000000000000000000000800000000000000080000000000000001000000000000007a",
 ];
 
-/// The log of `WRITTEN` where its writes are gathered: the fills stand before the submit.
+/// The log of `WRITTEN` where its writes are gathered: the fills are before the submit.
 fn gathered(alloc: Global) -> Result<Vec<u8>, Fail> {
     let mut log = file_of(alloc, 1, &ONE_FRAME[..9])?;
     append(alloc, &ONE_FRAME[10..20], &mut log)?;

@@ -1,4 +1,4 @@
-//! The listing of the file of one frame, and what stands behind it in that of three.
+//! The listing of the file of one frame, and what follows it in that of three.
 
 /// The listing of the file of one frame.
 pub(crate) const FRAME: &[u8] = b"gfxr 1000.1

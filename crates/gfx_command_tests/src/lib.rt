@@ -9,6 +9,8 @@ mod damaged;
 #[cfg(test)]
 mod frame;
 #[cfg(test)]
+mod gated;
+#[cfg(test)]
 mod info;
 #[cfg(test)]
 mod listed;

@@ -97,7 +97,7 @@ fn lines_before_a_bad_block_are_written(rt: HostRuntime) -> Result<(), Fail> {
     Outside::of(LIST, b"GFXR").ends(rt.alloc(), 3, b"", b"bad block 0 at 0: 5 Truncated\n")
 }
 
-/// A call with this status failed behind a front of the output, or there is no such call.
+/// A call with this status failed behind a prefix of the output, or there is no such call.
 fn assert_front(rt: &impl Abort, ended: &Ended, status: u8, output: &[u8]) {
     assert!(rt; ended.status == status || ended.status == 0);
     assert!(rt; output.starts_with(&ended.text));

@@ -92,7 +92,7 @@ fn nothing_is_written_of_a_bad_header(rt: HostRuntime) -> Result<(), Fail> {
     Outside::of(WORDS, &file).ends(rt.alloc(), 3, b"", b"bad block 0 at 0: 2 BadVersion\n")
 }
 
-/// The call with this status failed behind a front of the file.
+/// The call with this status failed behind a prefix of the file.
 fn assert_front(rt: &impl Abort, ended: &Ended, status: u8, whole: &[u8]) {
     assert_eq!(rt; ended.status, status);
     assert!(rt; whole.starts_with(&ended.text));

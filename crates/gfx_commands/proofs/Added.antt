@@ -41,7 +41,7 @@ flat_map-more f (y ∷ ys) x = ap (λ l. f y ++ l) (flat_map-more f ys x) ∙ sy
 
 -- ---- one command of all
 
--- what stands at a place
+-- what is at a place
 pub item_at : {X : Type 0} (xs : List X) (i : ℕ) (o : Option (Bor X)) → IsItemAt xs i o → slice_get xs i ≡ option_copied o
 item_at xs i None is = slice_get_past xs i is.3
 item_at xs i (Some x) is = slice_get_read xs (length xs) i x.now refl is.3.0 is.1

@@ -68,7 +68,7 @@ module _ (fields more : List ℕ) (c : Command) (end : c.end ≡ length (fields 
   cuts_more start [] cuts = let all = length-append fields more in (omega (arith, cuts, end, all), end)
   cuts_more start (d ∷ cs) cuts = (cuts.0, cuts_more d.end cs cuts.1)
 
-  -- what stands behind the fields of all others are those of the new one
+  -- what follows the fields of all others are those of the new one
   pub cut_more : (start : ℕ) (cs : List Command) → IsCut start cs (length fields)
       → cut start (fields ++ more) (cs ++ c ∷ []) ≡ cut start fields cs ++ record { call_id = c.call_id; params = more } ∷ []
   cut_more start [] cuts =

@@ -93,7 +93,7 @@ module _ (uses : FinMap nat_cmp Use) (agrees : Bool) (named : List ℕ) (asks : 
       if_same : (y : ℕ) → (if x == y then u else use_of uses y) ≡ use_of uses y
       if_same y = let e : x ≡ y → use_of uses x ≡ use_of uses y = ap (use_of uses) in grind (arith, nat_tests, e)
 
-  -- where it stands under x, and where it stands elsewhere
+  -- where it is under x, and where it stands elsewhere
   at_each : (now : FinMap nat_cmp Use) (v : Use) → now ≡ map.insert uses x v → (P : ℕ → Use → Bool) → P x v ≡ true
       → ((y : ℕ) → P y (use_of uses y) ≡ true) → (y : ℕ) → P y (use_of now y) ≡ true
   at_each now v is P here there y = ap (P y) (use_at now v is y) ∙ cases (x == y) refl

@@ -13,7 +13,7 @@ pub flat_map-map : {X Y Z : Type 0} (f : Y → List Z) (g : X → Y) (xs : List 
 flat_map-map f g [] = refl
 flat_map-map f g (x ∷ xs) = ap (λ ys. f (g x) ++ ys) (flat_map-map f g xs)
 
--- what stood at the front stays there, where what grew behind it stays
+-- what was at the start stays there, where what grew behind it stays
 pub front_kept : {X : Type 0} (old mid more new : List X) → mid ≡ old ++ more → take (length mid) new ≡ mid → take (length old) new ≡ old
 front_kept old mid more new grown kept =
     sym (take-take (length old) (length mid) new (omega (arith, ap length grown, length-append old more)))

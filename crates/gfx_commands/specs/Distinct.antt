@@ -1,4 +1,4 @@
--- The ids of live objects are distinct, as the totals want them.
+-- The ids of live objects are distinct, as the totals need them.
 use Rattle.std.specs.Prelude.{◌≡◌, ℕ, true, false, List, [], ◌∷◌, T, map as each, refl}
 use Rattle.std.proofs.Common.{arith}
 use Rattle.std.specs.Ordering.{nat_cmp}

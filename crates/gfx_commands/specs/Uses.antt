@@ -17,7 +17,7 @@ plain = record { wanted = None; left = None }
 abbrev pub use_of : FinMap nat_cmp Use → ℕ → Use
 use_of uses x = unwrap_or (map.get uses x) plain
 
--- a layout suits where it is the one that is wanted, or none is
+-- a layout suits where it is the one that is needed, or none is
 abbrev pub suits : Option ℕ → ℕ → Bool
 suits None layout = true
 suits (Some wanted) layout = wanted == layout

@@ -1,4 +1,7 @@
 //! The commands of a buffer, and what is kept beside them so that no byte is read again.
+//!
+//! Commands are kept as their spelled fields, which are alike in both versions of a file, so the bytes that count
+//! against the limit are those that are kept, and a state section copies them.
 ghost use Rattle.std.specs.Prelude.{flat_map, ◌≡◌, ◌≤◌, ◌++◌, ◌∷◌, [], true, length, slice_get, take, option_map, IfOk, OnOk, OnErr, IfSome};
 ghost use Rattle.std.specs.List.{AllByRecursion, list_all};
 ghost use Rattle.gfx_model.specs.Events.{event_of_call};
@@ -101,7 +104,7 @@ impl Commands {
     }
 
     /// Adds a command at the end, whose resources are perhaps known to be named already, and says how many bytes its fields
-    /// are. After want of memory the commands are as before.
+    /// are. When out of memory the commands are as before.
     pub(crate) fn add(&mut self, call: &Call<'_>, is_known: bool) -> Result<u64, WantMemory>
         requires spelled { HasSpelling 1 (event_of_call call.now) }
         requires known { is_known ≡ true → list_all (λ x. is_among x (flat_map resources_of (events_in self.old))) (resources_of (event_of_call call.now)) ≡ true }
@@ -122,7 +125,7 @@ impl Commands {
         Ok((self.fields.len() - before) as u64)
     }
 
-    /// Appends what the commands do to a list of operations, with the layouts that they set or without. For want of memory
+    /// Appends what the commands do to a list of operations, with the layouts that they set or without. When out of memory
     /// the list begins with what it was.
     pub(crate) fn append_ops(
         &self,

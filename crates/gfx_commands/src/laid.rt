@@ -1,4 +1,7 @@
 //! Layouts that the command buffers of a call set.
+//!
+//! Without it each command buffer would be sought among those before it: up to 1,024 looks for an image. The check has
+//! no answer for a lack of memory, so a walk takes the table's place where there is none.
 ghost use Rattle.std.specs.Prelude.{◌≡◌, ◌≤◌, ℕ, false, length};
 ghost use Rattle.gfx_objects.specs.Objects.{answers};
 ghost use Rattle.gfx_commands.specs.Laid.{IsLaid, laid_by, left_after, left_by};

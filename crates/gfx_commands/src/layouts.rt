@@ -93,7 +93,7 @@ impl Recordings {
         false
     }
 
-    // Whether an image has another layout than the uses want, before the place of the call.
+    // Whether an image has another layout than the uses need, before the place of the call.
     fn image_differs(&self, uses: &Uses, place: Place<'_>, objects: &Objects, laid: &Laid) -> bool
         requires reached { IsReached (buffers self.now) (answers objects.now).layout place }
         requires laid { IsLaid laid.now (answers objects.now).layout (layouts_at (buffers self.now) (answers objects.now).layout place) }
@@ -108,7 +108,7 @@ impl Recordings {
         false
     }
 
-    // Whether this image has another layout than the uses want.
+    // Whether this image has another layout than the uses need.
     fn wants_another(
         &self,
         uses: &Uses,
@@ -140,7 +140,8 @@ impl Recordings {
         }
     }
 
-    // The same, found without memory: the newest buffer before the place that asks for the image decides.
+    // The layout of an image before the place of the call, found without memory: the newest buffer before the place that
+    // asks for the image decides.
     fn layout_sought(&self, place: Place<'_>, objects: &Objects, image: u64) -> u32
         requires reached { IsReached (buffers self.now) (answers objects.now).layout place }
         ensures { result ≡ layouts_at (buffers self.now) (answers objects.now).layout place.entry image }

@@ -21,7 +21,7 @@ pub struct Recorded<'a> {
 const BARRIER: u32 = 26;
 
 impl Recorded<'_> {
-    /// Appends what the command does to a list of operations, with the layouts that it sets or without. For want of memory
+    /// Appends what the command does to a list of operations, with the layouts that it sets or without. When out of memory
     /// the list begins with what it was.
     pub(crate) fn append_ops(
         &self,
@@ -49,7 +49,7 @@ impl Recorded<'_> {
         self.call_id == BARRIER
     }
 
-    // Appends all that the command does. For want of memory the list begins with what it was.
+    // Appends all that the command does. When out of memory the list begins with what it was.
     fn append_all(
         &self,
         alloc: Global,

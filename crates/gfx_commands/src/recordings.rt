@@ -1,4 +1,7 @@
 //! What is recorded in all command buffers.
+//!
+//! What ends visits only the command buffers that name it: `Users` keeps these for each resource. So an object that no
+//! command can name ends without a look at any buffer.
 ghost use Rattle.std.specs.Prelude.{flat_map, filter, ◌≡◌, ℕ, ◌+◌, ◌≤◌, ◌==◌, ◌&&◌, ◌++◌, ◌∷◌, [], List, length, sum_by, slice_get, option_map, Some, IsTrue, IsNone, IfSome, OnOk, OnErr, true, if◌then◌else◌};
 ghost use Rattle.std.specs.List.{AllByRecursion};
 ghost use Rattle.gfx_model.specs.Events.{event_of_call};
@@ -109,7 +112,7 @@ impl Recordings {
         self.rows.totals()
     }
 
-    /// Begins to record: what was recorded before is let go. After want of memory all is as before.
+    /// Begins to record: what was recorded before is dropped. When out of memory all is as before.
     pub fn begin(&mut self, cb: u64, flags: u32) -> Result<(), WantMemory>
         ensures ok { OnOk result (buffers self.new ≡ (λ x. if cb == x then record { state = State.recording; flags = flags; commands = [] } else buffers self.old x)) }
         ensures err { OnErr result (self.new ≡ self.old) }
@@ -122,7 +125,7 @@ impl Recordings {
         Ok(())
     }
 
-    /// Adds a command to a recording buffer. After want of memory all is as before.
+    /// Adds a command to a recording buffer. When out of memory all is as before.
     pub fn add(&mut self, cb: u64, call: &Call<'_>) -> Result<(), WantMemory>
         requires recording { IsTrue (is_recording (buffers self.old cb).state) }
         requires spelled { HasSpelling 1 (event_of_call call.now) }
@@ -178,7 +181,7 @@ impl Recordings {
     }
 
     /// Appends what the commands of a buffer do to a list of operations. Each of them breaks no check of its row but
-    /// perhaps that its buffer is recording and that there is room. For want of memory the list is as it was.
+    /// perhaps that its buffer is recording and that there is room. When out of memory the list is as it was.
     pub fn expand(&self, cb: u64, objects: &Objects, ops: &mut OpList) -> Result<(), WantMemory>
         requires { AllByRecursion (IsRunnable (answers objects.now)) (buffers self.now cb).commands }
         ensures ok { OnOk result (ops.new ≡ ops.old ++ flat_map (ops_of_command (answers objects.now)) (buffers self.now cb).commands) }
@@ -187,7 +190,7 @@ impl Recordings {
         self.append_ops(cb, objects, true, ops)
     }
 
-    /// The same without the layouts: what the commands of a buffer do to bytes.
+    /// Appends what the commands of a buffer do to bytes, without the layouts. When out of memory the list is as it was.
     pub fn expand_bytes(
         &self,
         cb: u64,
@@ -201,7 +204,7 @@ impl Recordings {
         self.append_ops(cb, objects, false, ops)
     }
 
-    // Appends what the commands of a buffer do, with the layouts that they set or without. For want of memory the list is
+    // Appends what the commands of a buffer do, with the layouts that they set or without. When out of memory the list is
     // as it was.
     fn append_ops(
         &self,

@@ -145,7 +145,7 @@ impl Rows {
         }
     }
 
-    /// Adds a command to a recording buffer, which is perhaps known to name its resources already. After want of memory all is as
+    /// Adds a command to a recording buffer, which is perhaps known to name its resources already. When out of memory all is as
     /// before.
     pub(crate) fn add(&mut self, cb: u64, call: &Call<'_>, is_known: bool) -> Result<(), WantMemory>
         requires known { is_known ≡ true → list_all (λ x. names x (buffers self.old.map cb)) (resources_of (event_of_call call.now)) ≡ true }

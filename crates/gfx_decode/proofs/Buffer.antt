@@ -4,7 +4,7 @@ use Rattle.std.proofs.lemmas.List.{take-append-le, take-take}
 use Rattle.gfx_io.proofs.Parts.{take-put_mid_part}
 use borrow.Rule.Slice.PartMut.{put_mid, post_of}
 
--- the front of what was held stays in what was made longer
+-- the prefix of what was held stays in what was made longer
 pub front_kept : (held old zeros : List ℕ) (front size : ℕ) → front ≤ length held → length held ≤ size → old ≡ take size held ++ zeros → take front old ≡ take front held
 front_kept held old zeros front size within fits made =
     ap (take front) (made ∙ ap (λ (xs : List ℕ). xs ++ zeros) (take_all size held fits)) ∙ take-append-le front held zeros within
@@ -21,7 +21,7 @@ piece_behind held old new after front k len count is there some long =
     ∙ take-put_mid_part front k count old new there some
     ∙ ap (λ (xs : List ℕ). xs ++ take count new) is
 
--- a part was put at the front
+-- a part was put at the start
 pub front_filled : (room all : List ℕ) (k n : ℕ) → length all ≡ n → take n (put_mid 0 k room all) ≡ all
 front_filled room all k n long = take-append-le n all (post_of 0 k room) (omega (arith, long)) ∙ take_all n all (omega (arith, long))
 

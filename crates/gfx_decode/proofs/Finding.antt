@@ -9,8 +9,8 @@ use Rattle.gfx_model.specs.Blocks.{Position, Content, bad, clean, next_position,
 use Rattle.gfx_grammar.specs.Framing.{IsBlock, head_fault, marks, past, side}
 use Rattle.gfx_grammar.specs.Rows.{read_content}
 use Rattle.gfx_grammar.specs.Splitting.{Stops, blocks_from, breaks, front, only_end, payload_fault, with_item, with_payload}
-use Rattle.gfx_grammar.proofs.FramingLaws.{head_fault-append, next_position-past, refuse-false, refuse-true, side_count-side, size_field-append, type_field-append}
-use Rattle.gfx_grammar.proofs.FrontLaws.{front-empty, front-payload-count_fault, front-with_payload}
+use Rattle.gfx_grammar.proofs.FramingLaws.{head_fault-append, next_position-past, refuse-false, side_count-side, size_field-append, type_field-append}
+use Rattle.gfx_grammar.proofs.FrontLaws.{front-empty, front-with_payload}
 use Rattle.gfx_grammar.proofs.AloneLaws.{blocks_from-append, blocks_from-as}
 use Rattle.gfx_blocks.specs.Payloads.{content_of}
 use Rattle.gfx_io.specs.Told.{IfTold}
@@ -98,14 +98,6 @@ not_full n is = grind (arith, nat_tests)
 below : (n : ℕ) → n < 2 ^ 32 → nat_le (2 ^ 32) n ≡ false
 below n is = grind (arith, nat_tests)
 
-pub breaks_full : (m : ℕ) (at : Position) (kind size : ℕ) (bytes payload rest : List ℕ) → IsFramed kind size bytes → payload ≡ drop 12 bytes
-    → nat_le (2 ^ 32) (side at (marks 1 kind size payload)) ≡ true → front m at (bytes ++ rest) ≡ breaks at TooManyBlocks
-breaks_full m at kind size bytes payload rest h is crowded =
-    let same : payload ≡ h.payload = is ∙ framed-payload kind size bytes h in
-    ap (λ (xs : List ℕ). front m at (xs ++ rest)) h.parts ∙ ap (front m at) (append_assoc h.head h.payload rest)
-    ∙ front-payload-count_fault m at kind size h.head h.payload rest TooManyBlocks h.good h.long
-    (refuse-true (nat_le (2 ^ 32) (side at (marks 1 kind size h.payload))) TooManyBlocks None (subst (λ xs. nat_le (2 ^ 32) (side at (marks 1 kind size xs)) ≡ true) same crowded))
-
 pub breaks_payload : (m : ℕ) (at : Position) (kind size : ℕ) (bytes payload rest : List ℕ) (fault : Fault) → IsFramed kind size bytes → payload ≡ drop 12 bytes
     → nat_le (2 ^ 32) (side at (marks 1 kind size payload)) ≡ false → read_content m kind payload ≡ None → fault ≡ payload_fault kind payload
     → front m at (bytes ++ rest) ≡ breaks at fault
@@ -138,7 +130,6 @@ gives_fault stage m at (Some bytes) (Some rest) (Bad fault block offset) place r
 gives_fault stage m at (Some bytes) (Some rest) ReadFault place reads stops = tt
 gives_fault stage m at (Some bytes) (Some rest) WantMemory place reads stops = tt
 
--- the place of a decoder is one
 pub stops_there : (stage : Stage) (m n : ℕ) (at there : Position) (old new : Option (List ℕ)) (why : DecodeFault) → stage ≡ At m at → stage ≡ At n there → StopsAt m at old new why → StopsAt n there old new why
 stops_there stage m n at there old new why here also stops =
     let same : m ≡ n = cc in

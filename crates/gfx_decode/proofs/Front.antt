@@ -80,7 +80,7 @@ options_stop header start old mid new ReadFault h reads (part, came, short) = (
 )
 options_stop header start old mid new WantMemory h reads stops = absurd stops
 
--- the first block stands behind so many options
+-- the first block follows so many options
 abbrev behind_options : ℕ → Position
 behind_options n = record { number = 1; offset = 16 + 8 * n; in_section = false; inside = 0; outside = 0 }
 

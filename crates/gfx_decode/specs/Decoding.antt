@@ -13,7 +13,7 @@ use Rattle.gfx_decode.specs.declared.fault.DecodeFault.{DecodeFault}
 use Rattle.gfx_decode.specs.declared.fault.DecodeFault.TheVariants.{Bad, ReadFault, WantMemory}
 use Rattle.gfx_decode.specs.Reading.{IsFramed}
 
--- the block, as it stands in the file
+-- the block, unchanged in the file
 abbrev pub item_of : Raw → Whole
 item_of raw = record { number = raw.number; offset = raw.offset; bytes = raw.bytes.now; content = content_of raw.block }
 
@@ -39,14 +39,14 @@ Gives stage (Err (Bad fault block offset)) before after = coming stage before �
 Gives stage (Err ReadFault) before after = ⊤
 Gives stage (Err WantMemory) before after = ⊤
 
--- the block stands where the decoder was; it is whole, spelled so, and has room on its side of the section
+-- the block is where the decoder was; it is whole, spelled so, and has room on its side of the section
 pub record IsBlockHere (minor : ℕ) (at : Position) (raw : Raw) : Type 0 where
   pub number : raw.number ≡ at.number
   pub offset : raw.offset ≡ at.offset
   pub block : IsBlock minor raw.bytes.now (content_of raw.block)
   pub counted : side_count at raw.bytes.now < 2 ^ 32
 
--- the decoder had read the header and had not failed, and the block stands where it was
+-- the decoder had read the header and had not failed, and the block is where it was
 abbrev pub IsBlockAt : Stage → Raw → Type 0
 IsBlockAt Fresh raw = ⊥
 IsBlockAt (At minor at) raw = IsBlockHere minor at raw
@@ -58,14 +58,14 @@ Goes old (Ok (Some raw)) new = new ≡ behind old raw
 Goes old (Ok None) new = new ≡ old
 Goes old (Err why) new = new ≡ Failed why
 
--- the same of a block whose payload isn't looked at: its head is in order, its payload is there, and it has room on its side
+-- the block is where the decoder was; its head is in order, its payload is there, and it has room on its side
 pub record IsFramedHere (at : Position) (b : FramedBlock) : Type 0 where
   pub number : b.number ≡ at.number
   pub offset : b.offset ≡ at.offset
   pub framed : IsFramed b.framing.kind b.framing.size b.bytes.now
   pub counted : side_count at b.bytes.now < 2 ^ 32
 
--- the decoder had read the header and had not failed, and such a block stands where it was
+-- the decoder had read the header and had not failed, and such a block is where it was
 abbrev pub IsFramedAt : Stage → FramedBlock → Type 0
 IsFramedAt Fresh b = ⊥
 IsFramedAt (At minor at) b = IsFramedHere at b

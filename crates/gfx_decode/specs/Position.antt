@@ -1,4 +1,4 @@
--- Where a decoder stands between blocks.
+-- Where a decoder is between blocks.
 use Rattle.gfx_model.specs.Blocks as blocks
 use Rattle.gfx_decode.specs.declared.position.Position.{Position}
 

@@ -1,10 +1,10 @@
 -- What the reads of one block leave, where what the source has left is told.
-use Rattle.std.specs.Prelude.{◌≡◌, ◌⊎◌, ℕ, ◌+◌, ◌*◌, ◌<◌, nat_lt, true, false, List, ◌++◌, length, IfSome, None, Some}
+use Rattle.std.specs.Prelude.{◌≡◌, ◌⊎◌, ℕ, ◌+◌, ◌*◌, ◌<◌, ◌≤◌, nat_lt, true, false, List, ◌++◌, length, IfSome, None, Some}
 use Rattle.std.specs.declared.option.Option.{Option}
 use Rattle.std.specs.Io.KnownBytes.{Consumes}
 use Rattle.gfx_types.specs.declared.names.Fault.{Fault}
 use Rattle.gfx_types.specs.declared.names.Fault.TheVariants.{Truncated}
-use Rattle.gfx_model.specs.Blocks.{Position, header_fault, header_length, minor_of, option_count, options_fault, refuse, size_field}
+use Rattle.gfx_model.specs.Blocks.{Position, framing_fault, header_fault, header_length, minor_of, option_count, options_fault, refuse, size_field}
 use Rattle.gfx_model.specs.Limits.{max_side_blocks}
 use Rattle.gfx_grammar.specs.Framing as framing
 use Rattle.gfx_grammar.specs.Splitting.{breaks, front}
@@ -16,6 +16,10 @@ use Rattle.gfx_decode.specs.declared.fault.DecodeFault.TheVariants.{Bad, ReadFau
 abbrev pub ReadsSome : Option (List ℕ) → Option (List ℕ) → Type 0
 ReadsSome old new = (bytes : List ℕ) × Consumes old new bytes
 
+-- at most so many of them
+abbrev pub ReadsUpTo : ℕ → Option (List ℕ) → Option (List ℕ) → Type 0
+ReadsUpTo most old new = (bytes : List ℕ) × Consumes old new bytes × (length bytes ≤ most)
+
 -- the header isn't whole, and what there is of it breaks no step: fewer than 16 bytes, or a start in order and fewer bytes than its options take
 abbrev pub IsHeaderCut : List ℕ → Type 0
 IsHeaderCut bytes = (length bytes < 16) ⊎ ((framing.start_fault bytes ≡ None) × (length bytes < header_length bytes))
@@ -23,6 +27,16 @@ IsHeaderCut bytes = (length bytes < 16) ⊎ ((framing.start_fault bytes ≡ None
 -- a block has room here, whether it begins the state section or not
 abbrev pub HasRoom : Position → Type 0
 HasRoom at = (framing.side at false < max_side_blocks) ⊎ (framing.side at true < max_side_blocks)
+
+-- a head in order, a block for which there is room, and no more bytes than it says
+pub record IsInBlock (at : Position) (bytes : List ℕ) : Type 0 where
+  pub head : framing.head_fault bytes ≡ None
+  pub room : HasRoom at
+  pub within : length bytes ≤ 12 + size_field bytes
+
+-- of the block here no more was read than its head, or no more than it says
+abbrev pub ReadsBlock : Position → Option (List ℕ) → Option (List ℕ) → Type 0
+ReadsBlock at old new = (bytes : List ℕ) × Consumes old new bytes × ((length bytes ≤ 12) ⊎ IsInBlock at bytes)
 
 -- a head in order, a block for which there is room, and fewer bytes than it says
 pub record IsPayloadCut (at : Position) (bytes : List ℕ) : Type 0 where
@@ -46,6 +60,19 @@ StopsInOptions count old new (Bad fault block offset) =
     (block ≡ 0) × (offset ≡ 0) × IfSome old (λ rest. refuse (nat_lt (length rest) (8 * count)) Truncated (options_fault rest 0 0 count) ≡ Some fault)
 StopsInOptions count old new ReadFault = (part : List ℕ) × Consumes old new part × (length part < 8 * count)
 StopsInOptions count old new WantMemory = ⊥
+
+-- some byte is there, and the framing of the block breaks this step, whatever its payload says
+abbrev pub IsFramingFault : Position → List ℕ → Fault → Type 0
+IsFramingFault at bytes fault = (0 < length bytes) × (framing_fault at bytes ≡ Some fault)
+
+-- why no framed block came here
+abbrev pub StopsFraming : Position → Option (List ℕ) → Option (List ℕ) → DecodeFault → Type 0
+-- its framing breaks a step
+StopsFraming at old new (Bad fault block offset) =
+    (block ≡ at.number) × (offset ≡ at.offset) × IfSome old (λ bytes. IsFramingFault at bytes fault)
+-- it isn't whole in the bytes that were read
+StopsFraming at old new ReadFault = (bytes : List ℕ) × Consumes old new bytes × IsBlockCut at bytes
+StopsFraming at old new WantMemory = Unit {0}
 
 -- why no block came here, in a file of minor version m
 abbrev pub StopsAt : ℕ → Position → Option (List ℕ) → Option (List ℕ) → DecodeFault → Type 0

@@ -15,12 +15,12 @@ use gfx_blocks::{BlockFault, Framing, is_marker, read_payload};
 use gfx_types::{Block, Fault};
 use std::alloc::Global;
 
-/// Where the next block stands behind the one in the buffer, or TooManyBlocks where there is no room for it.
+/// Where the next block follows the one in the buffer, or TooManyBlocks where there is no room for it.
 pub fn place_behind(at: Position, framing: Framing, buffer: &[u8]) -> Result<Position, DecodeFault>
     requires reach { IsInReach (position_of at) }
     requires framed { IsFramed framing.kind framing.size buffer.now }
     ensures leads { IfOk result (λ next. LeadsTo (position_of at) buffer.now (position_of next)) }
-    ensures fault { (m : ℕ) → IfErr result (StopsInBytes m (position_of at) buffer.now) }
+    ensures fault { IfErr result (λ why. why ≡ DecodeFault.Bad Fault.TooManyBlocks at.number at.offset) }
     ensures full { OnErr result (2 ^ 32 ≤ side_count (position_of at) buffer.now) }
 {
     let payload = &buffer[12..];

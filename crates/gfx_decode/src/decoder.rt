@@ -1,4 +1,7 @@
 // A decoder, by the place of its next block.
+//
+// Blocks are read into a buffer that the caller lends: a result that owns lists and borrows from `self` has no
+// contract about what follows it. The buffer is not cleared between blocks, which would take as long as copying them.
 ghost use Rattle.std.specs.Prelude.{◌≡◌, ◌≢◌, ◌+◌, ◌*◌, ◌^◌, ◌≤◌, ℕ, List, take, IfOk, IfErr, IfSome, None, Some};
 ghost use Rattle.std.specs.Io.KnownBytes.{Consumes, IsAtEnd};
 ghost use Rattle.gfx_io.specs.Causes.{Rose};
@@ -64,7 +67,7 @@ impl Model for Decoder {
 
 impl Decoder {
     ghost use Rattle.gfx_decode.specs.Decoding.{Gives, GivesHeader, Goes, GoesFramed, IsBlockAt, IsFramedAt, stage_after};
-    ghost use Rattle.gfx_decode.specs.Reading.{IsHeader, ReadsSome, StopsAt, StopsInHeader};
+    ghost use Rattle.gfx_decode.specs.Reading.{IsHeader, ReadsBlock, ReadsSome, StopsAt, StopsFraming, StopsInHeader};
     ghost use Rattle.gfx_decode.specs.Stage.{Fresh, At, Failed};
 
     /// A decoder before its header. Lists of calls will take memory of this allocator.
@@ -91,7 +94,7 @@ impl Decoder {
         self.header_into(source, &mut [0; MOST_HEADER])
     }
 
-    /// Reads the header as `header` does, and leaves its bytes at the front of `into`: sixteen, and eight for each option.
+    /// Reads the header as `header` does, and leaves its bytes at the start of `into`: sixteen, and eight for each option.
     pub fn header_into<S: Source>(
         &mut self,
         source: &mut S,
@@ -138,8 +141,11 @@ impl Decoder {
         // A file has at most 2^32 blocks on each side of its state section, so the blocks come to an end.
         ensures few { IfOk result (λ found. IfSome found (λ raw. raw.number ≤ 2 ^ 33 + 1)) }
 
-        // Just the bytes of the block were read, and at a fault some of those that were left.
+        // Just the bytes of the block were read. At a fault no more than its head was, or no more than the head and the size that it
+        // tells, where that is in order and a side has room for the block.
         ensures reads { ReadsSome (S.left source.old) (S.left source.new) }
+        ensures within { (minor : ℕ) → (at : blocks.Position) → self.old ≡ At minor at
+            → ReadsBlock at (S.left source.old) (S.left source.new) }
         ensures bytes { IfOk result (λ found. IfSome found (λ raw. Consumes (S.left source.old) (S.left source.new) raw.bytes.now)) }
         ensures end { result ≡ Ok None → IsAtEnd (S.left source.old) × IsAtEnd (S.left source.new) }
 
@@ -152,7 +158,7 @@ impl Decoder {
         ensures cause { result ≡ Err DecodeFault.ReadFault → self.old ≢ Failed DecodeFault.ReadFault
             → Rose (S.faults source.old) (S.faults source.new) }
 
-        // It stands behind the block afterwards, or has failed from then on.
+        // It follows the block afterwards, or has failed from then on.
         ensures after { Goes self.old result self.new }
     {
         let (minor, at) = match self.state {
@@ -192,7 +198,7 @@ impl Decoder {
     ) -> Result<Option<FramedBlock<'b>>, DecodeFault>
         requires { self.old ≢ Fresh }
 
-        // The block stands where the decoder was, and what its payload says is left to be asked.
+        // The block is where the decoder was, and what its payload says is left to be asked.
         ensures block { IfOk result (λ found. IfSome found (IsFramedAt self.old)) }
         ensures few { IfOk result (λ found. IfSome found (λ block. block.number ≤ 2 ^ 33 + 1)) }
 
@@ -200,19 +206,24 @@ impl Decoder {
         ensures none { result ≡ Ok None → IfTold (S.left source.old) (S.left source.new) (Gives self.old (Ok None)) }
         ensures err { IfErr result (λ why. IfTold (S.left source.old) (S.left source.new) (Gives self.old (Err why))) }
 
-        // Just the bytes of the block were read, and at a fault some of those that were left.
+        // Just the bytes of the block were read. At a fault no more than its head was, or no more than the head and the size that it
+        // tells, where that is in order and a side has room for the block.
         ensures reads { ReadsSome (S.left source.old) (S.left source.new) }
+        ensures within { (minor : ℕ) → (at : blocks.Position) → self.old ≡ At minor at
+            → ReadsBlock at (S.left source.old) (S.left source.new) }
         ensures bytes { IfOk result (λ found. IfSome found (λ block. Consumes (S.left source.old) (S.left source.new) block.bytes.now)) }
         ensures end { result ≡ Ok None → IsAtEnd (S.left source.old) × IsAtEnd (S.left source.new) }
-        ensures fault { (minor : ℕ) → (at : blocks.Position) → self.old ≡ At minor at
-            → IfErr result (StopsAt minor at (S.left source.old) (S.left source.new)) }
+
+        // A fault that comes now is one of the framing, whatever the payload says, and one from before stays.
+        ensures framing { (minor : ℕ) → (at : blocks.Position) → self.old ≡ At minor at
+            → IfErr result (StopsFraming at (S.left source.old) (S.left source.new)) }
         ensures stays { (why : DecodeFault) → self.old ≡ Failed why
             → (result ≡ Err why) × (source.new ≡ source.old) }
         ensures later { S.faults source.old ≤ S.faults source.new }
         ensures cause { result ≡ Err DecodeFault.ReadFault → self.old ≢ Failed DecodeFault.ReadFault
             → Rose (S.faults source.old) (S.faults source.new) }
 
-        // It stands behind the block afterwards, or has failed from then on.
+        // It follows the block afterwards, or has failed from then on.
         ensures after { GoesFramed self.old result self.new }
     {
         let (minor, at) = match self.state {

@@ -8,7 +8,7 @@ ghost use Rattle.gfx_decode.specs.Reachable.{IsInReach};
 use crate::position::Position;
 use gfx_blocks::Header;
 
-/// How many blocks may stand inside the state section, and how many outside it.
+/// How many blocks may occur inside the state section, and how many outside it.
 const MOST_BLOCKS: u64 = 1 << 32;
 
 /// Where the first block stands.

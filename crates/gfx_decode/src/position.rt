@@ -1,7 +1,7 @@
-// Where a decoder stands between blocks.
+// Where a decoder is between blocks.
 
 /// The number of the next block, from 1 on, its offset in bytes, whether it is in the state section, and how many
-/// blocks stand on each side of the section.
+/// blocks are on each side of the section.
 #[derive(Clone, Copy, Debug, PartialEq, Eq)]
 pub struct Position {
     pub number: u64,

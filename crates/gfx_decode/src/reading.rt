@@ -5,7 +5,7 @@ ghost use Rattle.gfx_io.specs.Causes.{Rose};
 ghost use Rattle.gfx_model.specs.Blocks.{options_fault};
 ghost use Rattle.gfx_grammar.specs.Framing.{IsHead};
 ghost use Rattle.gfx_decode.specs.Position.{position_of};
-ghost use Rattle.gfx_decode.specs.Reading.{IsCutFault, IsFramed, IsHeader, ReadsSome, StopsAt, StopsInHeader, StopsInOptions, StopsInPayload, StopsShort};
+ghost use Rattle.gfx_decode.specs.Reading.{IsCutFault, IsFramed, IsHeader, ReadsBlock, ReadsSome, ReadsUpTo, StopsFraming, StopsInHeader, StopsInOptions, StopsInPayload, StopsShort};
 
 use crate::DecodeFault;
 use crate::places::{has_room, is_full};
@@ -27,7 +27,7 @@ const MOST_OPTIONS: usize = 8 * 16;
 /// The most bytes that a header has, with its options.
 pub const MOST_HEADER: usize = START + MOST_OPTIONS;
 
-/// Reads the header with its options, and leaves its bytes at the front of `into`.
+/// Reads the header with its options, and leaves its bytes at the start of `into`.
 pub fn read_front<S: Source>(
     source: &mut S,
     into: &mut [u8; MOST_HEADER],
@@ -102,8 +102,8 @@ pub fn read_head<S: Source>(
     ensures some { IfOk result (λ found. IfSome found (λ framing. IsHead framing.kind framing.size head.new
         × Consumes (S.left source.old) (S.left source.new) head.new)) }
     ensures none { result ≡ Ok None → IsAtEnd (S.left source.new) × Consumes (S.left source.old) (S.left source.new) [] }
-    ensures fault { (m : ℕ) → IfErr result (StopsAt m (position_of at) (S.left source.old) (S.left source.new)) }
-    ensures reads { ReadsSome (S.left source.old) (S.left source.new) }
+    ensures fault { IfErr result (StopsFraming (position_of at) (S.left source.old) (S.left source.new)) }
+    ensures reads { ReadsUpTo 12 (S.left source.old) (S.left source.new) }
     ensures later { S.faults source.old ≤ S.faults source.new }
     ensures cause { result ≡ Err DecodeFault.ReadFault → Rose (S.faults source.old) (S.faults source.new) }
 {
@@ -120,7 +120,7 @@ pub fn read_head<S: Source>(
     }
 }
 
-/// Reads the payload behind a block's head, and lends both from the front of the buffer, which grows with what comes.
+/// Reads the payload behind a block's head, and lends both from the prefix of the buffer, which grows with what comes.
 pub fn read_rest<'b, S: Source>(
     source: &mut S,
     at: Position,
@@ -132,7 +132,7 @@ pub fn read_rest<'b, S: Source>(
     ensures whole { IfOk result (λ bytes. (payload : List ℕ) × (bytes.now ≡ head.now ++ payload) × (length payload ≡ framing.size)
         × Consumes (S.left source.old) (S.left source.new) payload) }
     ensures fault { IfErr result (StopsInPayload framing.size (position_of at) (S.left source.old) (S.left source.new)) }
-    ensures reads { ReadsSome (S.left source.old) (S.left source.new) }
+    ensures reads { ReadsUpTo framing.size (S.left source.old) (S.left source.new) }
     ensures later { S.faults source.old ≤ S.faults source.new }
     ensures cause { result ≡ Err DecodeFault.ReadFault → Rose (S.faults source.old) (S.faults source.new) }
 {
@@ -149,7 +149,7 @@ pub fn read_rest<'b, S: Source>(
     Ok(&buffer[..end])
 }
 
-/// Puts a head over the front of the buffer. What stands behind it stays, since to clear it for each block costs as much as to copy it.
+/// Puts a head over the start of the buffer. What follows it stays, since to clear it for each block costs as much as to copy it.
 fn put_front(head: &[u8; 12], buffer: &mut Vec<u8>) -> Result<(), AllocError>
     ensures { OnOk result ((length head.now ≤ length buffer.new.items) × (take (length head.now) buffer.new.items ≡ head.now)) }
 {
@@ -207,7 +207,7 @@ fn read_over<S: Source>(
     ensures room { IfOk result (λ _. front + most ≤ length buffer.new.items) }
     ensures ended { IfOk result (λ count. (count ≤ most) × (count < most → IsAtEnd (S.left source.new))) }
     ensures fault { IfErr result (StopsShort most (S.left source.old) (S.left source.new)) }
-    ensures reads { ReadsSome (S.left source.old) (S.left source.new) }
+    ensures reads { ReadsUpTo most (S.left source.old) (S.left source.new) }
     ensures later { S.faults source.old ≤ S.faults source.new }
     ensures cause { result ≡ Err DecodeFault.ReadFault → Rose (S.faults source.old) (S.faults source.new) }
 {
@@ -227,8 +227,8 @@ pub fn fetch<'b, S: Source>(
     ensures some { IfOk result (λ found. IfSome found (λ block. IsFramed block.0.kind block.0.size block.1.now
         × Consumes (S.left source.old) (S.left source.new) block.1.now)) }
     ensures none { result ≡ Ok None → IsAtEnd (S.left source.new) × Consumes (S.left source.old) (S.left source.new) [] }
-    ensures fault { (m : ℕ) → IfErr result (StopsAt m (position_of at) (S.left source.old) (S.left source.new)) }
-    ensures reads { ReadsSome (S.left source.old) (S.left source.new) }
+    ensures fault { IfErr result (StopsFraming (position_of at) (S.left source.old) (S.left source.new)) }
+    ensures reads { ReadsBlock (position_of at) (S.left source.old) (S.left source.new) }
     ensures later { S.faults source.old ≤ S.faults source.new }
     ensures cause { result ≡ Err DecodeFault.ReadFault → Rose (S.faults source.old) (S.faults source.new) }
 {

@@ -8,7 +8,7 @@ use Rattle.gfx_pages.proofs.Lists.{write_step, paste_take}
 use Rattle.gfx_device.specs.declared.rows.Rows.{Rows}
 use Rattle.gfx_device.specs.Rows.{copied, AreWithin}
 
--- a range behind a place is a range of what stands behind the place
+-- a range behind a place is a range of what follows the place
 range_behind : (s : List ℕ) (at n m : ℕ) → slice_range s (at + n) (at + n + m) ≡ slice_range (drop at s) n (n + m)
 range_behind s at n m =
     ap (λ k. take k (drop (at + n) s)) (let e : at + n + m - (at + n) ≡ n + m - n = omega arith in e)

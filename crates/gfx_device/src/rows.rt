@@ -1,4 +1,6 @@
 // The rows of a copy.
+//
+// Rows that follow one another on both sides are copied as one range, so narrow copies are as fast as memory.
 ghost use Rattle.std.specs.Prelude.{◌≡◌, ◌<◌, length, OnOk};
 ghost use Rattle.gfx_device.specs.Rows.{copied, AreWithin};
 

@@ -34,7 +34,7 @@ pub record IsWithout (a : Asked) (lowest highest : ℕ) (bytes left : List ℕ) 
   pub highest_is : highest ≡ last_in (history_in bytes)
   pub read : left ≡ []
 
--- A read failed. In the bytes that were given stands neither a bad block nor the last frame that is asked for, and the next block isn't whole.
+-- A read failed. In the bytes that were given is neither a bad block nor the last frame that is asked for, and the next block isn't whole.
 pub record IsCut (a : Asked) (bytes left : List ℕ) : Type 0 where
   pub given : List ℕ
   pub parts : bytes ≡ given ++ left
@@ -42,7 +42,7 @@ pub record IsCut (a : Asked) (bytes left : List ℕ) : Type 0 where
   pub lawful : end_of given ≡ (blocks_of given).end
   pub unseen : has_last a (frames_in given) ≡ false
 
--- what an answer says of a file; nothing after want of memory, and no write fails
+-- what an answer says of a file; nothing when out of memory, and no write fails
 abbrev pub DigestsAsked : Asked → Result Digested PlayFault → List ℕ → List ℕ → Type 0
 DigestsAsked a (Ok d) bytes left = IsDigest a d bytes left
 DigestsAsked a (Err (play.Bad fault block offset)) bytes left = IsBadBefore a fault block offset bytes

@@ -59,7 +59,7 @@ fn digest_asked<S: Source>(
     digested
 }
 
-// The loop only borrows the player: each exit of an owner lets go of it field by field, which takes long to prove.
+// The loop only borrows the player: each exit of an owner drops it field by field, which takes long to prove.
 fn digest_opened<S: Source>(
     alloc: Global,
     asked: Asked,

@@ -9,7 +9,7 @@ use Rattle.gfx_types.specs.declared.names.Fault.{Fault}
 use Rattle.gfx_types.specs.declared.frame.Frame.{Frame}
 use Rattle.gfx_model.specs.Blocks.{Position}
 use Rattle.gfx_grammar.specs.Rows.{read_content}
-use Rattle.gfx_grammar.specs.Splitting.{payload_fault}
+use Rattle.gfx_grammar.specs.Splitting.{breaks, front, payload_fault}
 use Rattle.gfx_blocks.specs.Payloads.{content_of}
 use Rattle.gfx_decode.specs.Reading.{StopsAt}
 use Rattle.gfx_decode.specs.Stage.{At}
@@ -85,7 +85,7 @@ front_breaks m s fault at rest left b =
     let framed = b.is.framed in (
       b.is.number,
       b.is.offset,
-      stops_behind m at (held (b.block ++ b.later) left) (held b.later left) b.block fault (held_takes b.block b.later left)
+      stops_behind (λ xs. front m at xs ≡ breaks at fault) (held (b.block ++ b.later) left) (held b.later left) b.block (held_takes b.block b.later left)
           (λ more. breaks_payload m at f.framing.kind f.framing.size b.block (drop 12 b.block) more fault framed refl (room_left at f.framing.kind f.framing.size b.block (drop 12 b.block) framed refl b.is.counted) b.none b.because),
     )
 

@@ -85,7 +85,7 @@ gathered_on was p k shown file left rest before after s plays minor = record {
 
 -- ---- what isn't written whole
 
--- a front of the lines of these frames was written, and no more
+-- a prefix of the lines of these frames was written, and no more
 pub unwritten : (p : Player) (shown : List Frame) (why : PlayFault) (file left before after : Option (List ℕ)) → Plays p shown file left → IsUnwritten why → AppendsPart before after (all_lines p.minor shown) →
     IfTold file left (Answers asked.All false before after (Err why))
 unwritten p shown why file left before after plays kind part =

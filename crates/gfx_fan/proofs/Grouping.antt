@@ -61,7 +61,7 @@ one_kept at from bytes (e ∷ fs) (t ∷ ss) end block f s (first, rest, parts, 
       one_kept (next_position at first) (from + length first) rest fs ss end block f s more (subst (λ n. IsKept end n block f s) further here),
     )
 
--- a block that was read stands behind them
+-- a block that was read follows them
 pub block_kept : (end : Position) (b : FramedBlock) (bytes : List ℕ) → IsFramedHere end b → b.number ≤ 2 ^ 33 + 1 → IsKept end (0 + length bytes) b.bytes.now (framed_at (length bytes) b) (spot_of b)
 block_kept end b bytes here few = record {
   framed = here.framed;

@@ -153,7 +153,7 @@ written_line ss ds i s below is here =
 
 -- ---- the images of a frame that are left
 
--- what is kept, and the lines that are to come, with those of the next image in front of these
+-- what is kept, and the lines that are to come, with those of the next image before these
 pub next_kept : (places : Bytes) (l : Listing) (number i : ℕ) (ps : List ShownPicture) (d : ShownPicture) (title kept : List ℕ) → i < length ps → l.pixels ≡ false →
     title ≡ title_of l.minor number (1 + i) → kept ++ lines_from places l number (1 + i) (drop i ps) ≡ (kept ++ first_line places title (get_or ps i d)) ++ lines_from places l number (1 + (i + 1)) (drop (i + 1) ps)
 next_kept places l number i ps d title kept below plain is =

@@ -36,7 +36,7 @@ use Rattle.gfx_fan.proofs.Grouping.{held_told}
 
 -- ---- before the blocks of a group are fed
 
--- the walk stood before the blocks of the group, in the same file
+-- the walk was before the blocks of the group, in the same file
 pub gathered_held : (was p : Player) (k : Album) (shown : List Frame) (at : Position) (bytes : List ℕ) (file left middle before after : Option (List ℕ)) → Gathering was k shown file left before after →
     was.decoder ≡ At was.minor at → IsReplayedAlike was p → Consumes left middle bytes → Gathering (with_stage p (At p.minor at)) k shown file (held bytes middle) before after
 gathered_held was p k shown at bytes file left middle before after s place same took =
@@ -158,7 +158,7 @@ pub ok_same : {T E : Type 0} (a b : T) (r : Result T E) → r ≡ Ok a → r ≡
 unfolding ok_of
 ok_same a b r p q = ap (ok_of a) (sym p ∙ q)
 
--- it stands before a block again
+-- it is before a block again
 pub walks_on : (was q p : Player) (end : Position) (ending : Ending) (middle new : Option (List ℕ)) → IsAtBlock was → q.minor ≡ was.minor → IsReadAlike q p → ending ≡ Full →
     Ends was.minor end ending q.decoder middle new → IsAtBlock p
 walks_on was q p end ending middle new here same alike is ends = by ending is ends

@@ -23,7 +23,7 @@ use Rattle.gfx_fan.specs.Gathered.{IsGathered}
 abbrev pub framed_at : ℕ → FramedBlock → Framed
 framed_at from b = record { at = from + 12; framing = b.framing }
 
--- where the block stands in its file
+-- where the block is in its file
 abbrev pub spot_of : FramedBlock → Spot
 spot_of b = record { number = b.number; offset = b.offset }
 

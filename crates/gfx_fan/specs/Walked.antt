@@ -14,7 +14,7 @@ use Rattle.gfx_fan.specs.declared.group.Ending.TheVariants.{Full, Clean, Stopped
 use Rattle.gfx_fan.specs.Gathered.{Gathering, IsReplaying}
 use Rattle.gfx_fan.specs.Kept.{IsListed}
 
--- a player stands before a block, with an album that has room for the frames of a group
+-- a player is before a block, with an album that has room for the frames of a group
 pub record IsReady (p : Player) (k : Album) : Type 0 where
   pub place : IsAtBlock p
   pub going : IsBehind 0 p.decoder

@@ -1,4 +1,6 @@
 //! Images that were shown and aren't written yet.
+//!
+//! The next present may write over an image, so its pages are shared and copied only once they are written.
 ghost use Rattle.std.specs.Prelude.{◌≡◌, ◌≢◌, ◌⊎◌, ◌||◌, ◌+◌, ◌≤◌, ◌<◌, ◌^◌, ◌++◌, [], Err, IfErr, OnOk, false, drop, length, map, nat_le};
 ghost use Rattle.std.specs.List.{AllByRecursion};
 ghost use Rattle.std.specs.Io.KnownBytes.{Appends};
@@ -212,7 +214,7 @@ impl Album {
         Ok(())
     }
 
-    /// Digests the newer images, writes the lines of all, and lets go of them.
+    /// Digests the newer images, writes the lines of all, and drops them.
     pub(crate) fn flush<R: Threads + Sync, K: Sink>(
         &mut self,
         rt: &R,

@@ -1,4 +1,7 @@
 //! The payloads of blocks, decoded side by side.
+//!
+//! The answer is all blocks or the first bad place. A bad payload ends the file, so the places before it are decoded
+//! once more.
 ghost use Rattle.std.specs.Prelude.{◌≡◌, ◌⊎◌, ◌+◌, ◌≤◌, ◌<◌, IfOk, IfErr, Some, length, map};
 ghost use Rattle.std.specs.List.{All};
 ghost use Rattle.gfx_blocks.specs.Payloads.{Says, content_of};

@@ -58,7 +58,7 @@ pub fn digest_all<R: Threads + Sync, P: Pixels + Sync>(
     }
 }
 
-/// The same, as the allocator answers it.
+/// The digests of the pictures, with the allocator's own error.
 fn digests_of<R: Threads + Sync, P: Pixels + Sync>(
     rt: &R,
     alloc: Global,

@@ -1,14 +1,11 @@
-//! Why payloads give no blocks.
+//! The fault of payloads that are decoded together.
 
 use gfx_types::Fault;
-use thiserror::Error;
 
-/// Why payloads give no blocks.
-#[derive(Clone, Copy, Debug, PartialEq, Eq, Error)]
+/// A payload that spells nothing, or memory that ran out.
+#[derive(Clone, Copy, Debug, PartialEq, Eq)]
 pub enum FanFault {
     /// The first payload that spells nothing, by its place in the list, counted from 0, and its fault.
-    #[error("bad payload at place {place}: {fault:?}")]
     Bad { fault: Fault, place: u64 },
-    #[error("out of memory")]
     WantMemory,
 }

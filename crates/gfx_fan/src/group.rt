@@ -1,4 +1,7 @@
 //! Blocks that were read and are decoded together.
+//!
+//! Groups are small, so that the first image is shown soon and few bytes wait in memory; only the last payload of a
+//! group may be large.
 ghost use Rattle.std.specs.Prelude.{◌≡◌, ◌≤◌, ◌+◌, ◌<◌, ◌++◌, ◌∷◌, ◌*◌, ◌||◌, nat_le, [], Ok, IfOk, OnOk, length};
 ghost use Rattle.gfx_io.specs.Causes.{Rose};
 ghost use Rattle.gfx_model.specs.Blocks.{Position};
@@ -20,10 +23,10 @@ const MOST_BLOCKS: usize = 65_536;
 
 const MOST_BYTES: usize = 1 << 22;
 
-// The bytes of a block's size and type, which stand before its payload.
+// The bytes of a block's size and type, which are before its payload.
 const HEAD: usize = 12;
 
-/// Where a block stands in its file: its number from 1 on, and its offset in bytes.
+/// Where a block is in its file: its number from 1 on, and its offset in bytes.
 #[derive(Clone, Copy, Debug, PartialEq, Eq)]
 pub(crate) struct Spot {
     pub number: u64,
@@ -86,7 +89,7 @@ impl Group {
         Ok(Ending::Full)
     }
 
-    /// Lets go of all blocks.
+    /// Drops all blocks.
     fn clear(&mut self)
         ensures bytes { self.new.bytes.items ≡ [] }
         ensures places { self.new.places.items ≡ [] }

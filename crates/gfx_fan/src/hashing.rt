@@ -1,4 +1,7 @@
 //! Digests that threads of their own find.
+//!
+//! One half of the images has threads at work while the other half is shown: threads that begin at once stay on fewer
+//! processors than there are.
 ghost use Rattle.std.specs.Prelude.{◌≡◌};
 ghost use Rattle.sha2.specs.Sha256.{sha256};
 ghost use Rattle.gfx_fan.specs.Hashing.{digest_of};

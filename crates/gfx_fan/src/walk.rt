@@ -72,7 +72,7 @@ impl Walk {
         }
     }
 
-    /// Goes on to the end of the file. The loop only borrows the walk: each exit of an owner lets go of it field by field,
+    /// Goes on to the end of the file. The loop only borrows the walk: each exit of an owner drops it field by field,
     /// which takes long to prove.
     fn run<R: Threads + Sync, S: Source, K: Sink>(
         &mut self,
@@ -164,7 +164,7 @@ impl Walk {
     }
 }
 
-/// A decoder's fault, handed on.
+/// A decoder's fault, passed on.
 fn decode_fault(why: DecodeFault) -> PlayFault
     ensures { result ≡ of_decoder why }
 {

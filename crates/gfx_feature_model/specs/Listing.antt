@@ -22,11 +22,11 @@ abbrev pub header_text : List ℕ → List ℕ
 header_text bytes =
     join_with_byte 32 (codes "gfxr" ∷ (codes "1000." ++ decimal (minor_of bytes)) ∷ option_texts bytes 16 (option_count bytes))
 
--- the name of a skipped block of this type, and where its bytes begin: those of a message stand behind its id
+-- the name of a skipped block of this type, and where its bytes begin: those of a message follow its id
 abbrev pub skipped_name : ℕ → List ℕ
 skipped_name kind = if kind == 1 then codes "frame" else (if kind == 5 then codes "annotation" else codes "message")
 
--- the bytes of a skipped block: those of a message stand behind its id
+-- the bytes of a skipped block: those of a message follow its id
 abbrev pub skipped_bytes : ℕ → List ℕ → List ℕ
 skipped_bytes kind payload = if kind == 3 then drop 4 payload else payload
 

@@ -54,7 +54,7 @@ pub text_is : (places : Bytes) (l : Listing) (f : ShownFrame) → text_of places
 unfolding text_of
 text_is places l f = sym (numbered places l f.number 1 f.pictures.items)
 
--- the lines that are left, with those of the next image in front
+-- the lines that are left, with those of the next image before it
 pub next_lines : (places : Bytes) (l : Listing) (number i : ℕ) (ps : List ShownPicture) (d : ShownPicture) (title : List ℕ) → i < length ps → title ≡ title_of l.minor number (1 + i) →
     lines_from places l number (1 + i) (drop i ps) ≡ lines_of places l.pixels title (get_or ps i d) ++ lines_from places l number (1 + (i + 1)) (drop (i + 1) ps)
 next_lines places l number i ps d title below is =

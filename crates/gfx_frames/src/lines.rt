@@ -51,7 +51,7 @@ impl From<AllocError> for PrintFault {
 // How many bytes of an image are looked at in one piece; no row has more.
 const PIECE: usize = 65_536;
 
-/// Writes the lines of a frame, whose bytes are read in pieces. After a fault the sink took a front of them.
+/// Writes the lines of a frame, whose bytes are read in pieces. After a fault the sink took a prefix of them.
 pub fn write_frame<B: StateBytes, K: Sink>(
     alloc: Global,
     listing: Listing,

@@ -54,7 +54,7 @@ before next l ls uses none h =
     let same : next ≡ next + length (defines_of 2 l.event) = sym (ap (λ d. next + length d) none ∙ (let e : next + 0 ≡ next = omega arith in e)) in
     (uses, subst (λ d. d ≡ numbers_from next (length d)) (sym none) refl, subst (λ n. AreNumbered n ls) same h)
 
--- what stands behind a line that defines no names
+-- what follows a line that defines no names
 behind : (next : ℕ) (l : Line) (ls : List Line) → defines_of 2 l.event ≡ [] → AreNumbered next (l ∷ ls) → AreNumbered next ls
 behind next l ls none h =
     let same : next + length (defines_of 2 l.event) ≡ next = ap (λ d. next + length d) none ∙ (let e : next + 0 ≡ next = omega arith in e) in

@@ -1,4 +1,8 @@
 //! The lines of a thread in a phase.
+//!
+//! Writes are gathered before a script is run, so that all that is proved of runs holds of gathered ones. While lines
+//! are gathered, names of memories serve as ids: a name is one object. A line says how many lines were held before it,
+//! since a gate is told of these.
 ghost use Rattle.std.specs.Prelude.{ℕ, ◌≡◌, ◌∷◌, [], ◌++◌, map, true, false, IfOk, IsTrue, MatchOption, OnOk};
 ghost use Rattle.gfx_model.specs.Events.{event_of, event_of_call};
 ghost use Rattle.gfx_model.specs.Events.Event.{FillMemory};
@@ -23,10 +27,18 @@ pub(crate) fn gather_part(alloc: Global, minor: u32, part: &Part) -> Result<Part
 {
     let mut shadow = Shadow::new(alloc);
     let mut lines = Vec::new(alloc);
+    let mut held = 0;
     'lines: for line in part.lines.items() {
-        take_line(alloc, minor, line, &mut shadow, &mut lines)?;
+        take_line(alloc, minor, line, &mut held, &mut shadow, &mut lines)?;
     }
-    flush(alloc, minor, last_number(part), &mut shadow, &mut lines)?;
+    flush(
+        alloc,
+        minor,
+        last_number(part),
+        &mut held,
+        &mut shadow,
+        &mut lines,
+    )?;
     Ok(Part {
         thread: part.thread,
         lines: Lines::of(lines),
@@ -43,11 +55,13 @@ fn last_number(part: &Part) -> u32
     }
 }
 
-/// Takes a line: a write is held, and before one that ends holding come the fills of what is held.
+/// Takes a line: a write is held, and before one that ends holding come the fills of what is held. `held` counts the
+/// lines that were held since a line was appended.
 fn take_line(
     alloc: Global,
     minor: u32,
     line: &Line,
+    held: &mut u32,
     shadow: &mut Shadow,
     lines: &mut Vec<Line>,
 ) -> Result<(), WantMemory>
@@ -56,12 +70,13 @@ fn take_line(
 {
     let effect = line.event(alloc)?;
     if let Some(write) = held_by(&effect) {
+        *held = held.saturating_add(1);
         return shadow.put(write.memory, write.offset, write.bytes);
     }
     if ends_holding(&effect) {
-        flush(alloc, minor, line.number, shadow, lines)?;
+        flush(alloc, minor, line.number, held, shadow, lines)?;
     }
-    push_copy(alloc, line, lines)
+    push_copy(alloc, line, held, lines)
 }
 
 /// The write that is held in place of an effect: one with a byte or more that ends at 2^28 or below.
@@ -106,7 +121,7 @@ fn ends_holding(effect: &Effect<'_>) -> bool
     }
 }
 
-/// The same of a call.
+/// Whether no write is held any more before such a call.
 fn ends_holding_call(call: &Call<'_>) -> bool
     ensures { result ≡ ends_holding (event_of_call call.now) }
 {
@@ -118,17 +133,25 @@ fn ends_holding_call(call: &Call<'_>) -> bool
     }
 }
 
-/// Appends a line once more.
-fn push_copy(alloc: Global, line: &Line, lines: &mut Vec<Line>) -> Result<(), WantMemory>
+/// Appends a copy of the line, behind the lines that were held.
+fn push_copy(
+    alloc: Global,
+    line: &Line,
+    held: &mut u32,
+    lines: &mut Vec<Line>,
+) -> Result<(), WantMemory>
     ensures { OnOk result (map line_of lines.new.items ≡ map line_of lines.old.items ++ line_of line.now ∷ []) }
 {
-    push(line.copy(alloc)?, lines)
+    push(line.copy(alloc)?, held, lines)
 }
 
-/// Appends a line.
-fn push(line: Line, lines: &mut Vec<Line>) -> Result<(), WantMemory>
+/// Appends a line, behind the lines that were held.
+fn push(line: Line, held: &mut u32, lines: &mut Vec<Line>) -> Result<(), WantMemory>
     ensures { OnOk result (map line_of lines.new.items ≡ map line_of lines.old.items ++ line_of line ∷ []) }
 {
+    let mut line = line;
+    line.held = *held;
+    *held = 0;
     Ok(lines.push(line)?)
 }
 
@@ -137,6 +160,7 @@ fn flush(
     alloc: Global,
     minor: u32,
     number: u32,
+    held: &mut u32,
     shadow: &mut Shadow,
     lines: &mut Vec<Line>,
 ) -> Result<(), WantMemory>
@@ -145,7 +169,7 @@ fn flush(
     ensures lines { OnOk result (map line_of lines.new.items ≡ map line_of lines.old.items ++ fills_at number shadow.old) }
 {
     'fills: while let Some(fill) = shadow.first() {
-        push_fill(alloc, minor, number, &fill, lines)?;
+        push_fill(alloc, minor, number, &fill, held, lines)?;
         shadow.drop_first();
     }
     Ok(())
@@ -170,6 +194,7 @@ fn push_fill(
     minor: u32,
     number: u32,
     fill: &Held<'_>,
+    held: &mut u32,
     lines: &mut Vec<Line>,
 ) -> Result<(), WantMemory>
     requires { IsTrue (is_version minor) }
@@ -178,6 +203,7 @@ fn push_fill(
     let uses = vec![in alloc; fill.memory]?;
     let effect = effect_of(fill.memory, fill.offset, fill.bytes);
     let defines = Ids::of(Vec::new(alloc));
-    let line = Line::new(alloc, number, minor, &effect, defines, Ids::of(uses))?;
-    push(line, lines)
+    let mut line = Line::new(alloc, number, minor, &effect, defines, Ids::of(uses))?;
+    line.is_fill = true;
+    push(line, held, lines)
 }

@@ -1,4 +1,4 @@
--- A block is one by itself: what stands behind it does not matter for it, and where it stands matters by the counts alone.
+-- A block is one by itself: what follows it does not matter for it, and where it stands matters by the counts alone.
 use Rattle.std.proofs.Common.{◌≡◌, ℕ, ◌+◌, ◌^◌, ◌<◌, ◌≤◌, List, [], ◌∷◌, ◌++◌, length, take, drop, refl, sym, ap, subst, ◌∙◌, arith, append_assoc, take-append-drop, length-append}
 use Rattle.std.specs.Prelude.{flat_map}
 use Rattle.std.specs.List.{AllByRecursion}
@@ -11,7 +11,7 @@ use Rattle.gfx_grammar.proofs.FramingLaws.{size_field-append, type_field-append,
 use Rattle.gfx_grammar.proofs.FrontLaws.{whole-front, front-whole}
 use Rattle.gfx_grammar.proofs.BlockLaws.{blocks_go_on}
 
--- ---- a block stands at the front of whatever it begins
+-- ---- a block is at the start of whatever it begins
 
 pub block-front : (m : ℕ) (at : Position) (bytes rest : List ℕ) (c : Content) → IsBlock m bytes c → side_count at bytes < 2 ^ 32
     → front m at (bytes ++ rest) ≡ Finds (block_at at bytes c)
@@ -71,13 +71,13 @@ front-append m at bytes rest w is =
 
 -- ---- all blocks
 
--- the blocks are what stands at the front, and then the blocks of what follows it
+-- the blocks are what is at the start, and then the blocks of what follows it
 pub blocks_from-as : (m : ℕ) (at : Position) (bytes : List ℕ) (f : Front) → front m at bytes ≡ f
     → blocks_from m at bytes ≡ after_front f (blocks_from m (next_position at bytes) (drop (12 + size_field bytes) bytes))
 blocks_from-as m at bytes f is =
     blocks_go_on m at bytes ∙ ap (λ (g : Front). after_front g (blocks_from m (next_position at bytes) (drop (12 + size_field bytes) bytes))) is
 
--- a block in front is the first
+-- a block before them is the first
 pub blocks_from-append : (m : ℕ) (at : Position) (bytes rest : List ℕ) (c : Content) → IsBlock m bytes c → side_count at bytes < 2 ^ 32
     → blocks_from m at (bytes ++ rest) ≡ with_item (block_at at bytes c) (blocks_from m (next_position at bytes) rest)
 blocks_from-append m at bytes rest c h room =

@@ -15,7 +15,7 @@ use Rattle.gfx_grammar.proofs.ContentLaws.{read_is_content, content_is_read, con
 payload_bytes : (bytes : List ℕ) → AreBytes bytes → AreBytes (payload_field bytes)
 payload_bytes bytes h = AreBytes-take (size_field bytes) (drop 12 bytes) (AreBytes-drop 12 bytes h)
 
--- ---- the computed front is one of the definitions
+-- ---- the computed prefix is one of the definitions
 
 breaks : (m kind : ℕ) (bytes : List ℕ) → read_content m kind bytes ≡ None → (b : Bool)
     → MatchBool b (cond b UnknownBlock BadParams ≡ UnknownBlock) ((cond b UnknownBlock BadParams ≡ BadParams) × ((c : Content) → IsContent m kind bytes c → ⊥))
@@ -69,7 +69,7 @@ unfolding front
 front_block m at [] w h eq = absurd cc
 front_block m at (b ∷ bytes) w h eq = framing_block m at (b ∷ bytes) w h (λ is. cc) (framing_fault at (b ∷ bytes)) refl eq
 
--- ---- and what is one of the definitions is the computed front
+-- ---- and what is one of the definitions is the computed prefix
 
 some_bytes : (bytes : List ℕ) → bytes ≢ [] → 0 < length bytes
 some_bytes [] some = absurd (some refl)

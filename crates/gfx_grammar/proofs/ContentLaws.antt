@@ -78,7 +78,7 @@ unfolding type_of id_of
 event_known (CreateInstance a b) = (refl, omega arith)
 event_known _ = (refl, omega arith)
 
--- the number at the front of a payload
+-- the number at the start of a payload
 pub payload_number : (m t : ℕ) (e : Event) (bytes : List ℕ) → bytes ≡ payload m t e → u32_at bytes 0 ≡ id_of e
 unfolding payload
 payload_number m t e bytes same =

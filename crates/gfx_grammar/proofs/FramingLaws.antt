@@ -1,4 +1,4 @@
--- What a block's twelve bytes of size and type decide, and what its payload decides, whatever stands behind it.
+-- What a block's twelve bytes of size and type decide, and what its payload decides, whatever follows it.
 use Rattle.std.proofs.Common.{◌≡◌, ℕ, ◌+◌, ◌^◌, ◌<◌, ◌≤◌, Bool, true, false, not, ◌&&◌, ◌||◌, cond, nat_lt, nat_le, nat_eq, List, ◌++◌, length, take, drop, Option, Some, None, refl, sym, ap, ◌∙◌, arith, length-drop, length-append}
 use Rattle.std.specs.Int.{w32, w64, from_le_bytes}
 use Rattle.std.proofs.lemmas.Bool.{ltb-false, le-ltb, lt-ltb, le-leb, eqb-true}
@@ -67,7 +67,7 @@ second_false false b c d other = refl
 pub marks-other_size : (mark kind size : ℕ) (rest : List ℕ) → nat_eq size 12 ≡ false → marks mark kind size rest ≡ false
 marks-other_size mark kind size rest other = second_false (nat_eq kind 2) (nat_eq size 12) (nat_le 12 (length rest)) (nat_eq (u32_at rest 0) mark) other
 
--- what stands behind a whole payload does not matter for it
+-- what follows a whole payload does not matter for it
 marks-long : (mark kind size : ℕ) (payload rest : List ℕ) → 12 ≤ length payload → marks mark kind size (payload ++ rest) ≡ marks mark kind size payload
 marks-long mark kind size payload rest there =
     let more : nat_le 12 (length (payload ++ rest)) ≡ true = le-leb 12 (length (payload ++ rest)) (omega (arith, length-append payload rest)) in

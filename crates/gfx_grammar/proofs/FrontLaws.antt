@@ -1,4 +1,4 @@
--- What stands at the front of bytes, by how far they go. In each case the bytes of the block may go on.
+-- What is at the start of bytes, by how far they go. In each case the bytes of the block may go on.
 use Rattle.std.proofs.Common.{◌≡◌, ℕ, ◌+◌, ◌^◌, ◌<◌, ◌≤◌, Bool, true, false, nat_lt, nat_le, List, [], ◌∷◌, ◌++◌, length, take, drop, Option, Some, None, refl, sym, ap, ◌∙◌, arith, inl, inr, append_assoc, length-append}
 use Rattle.std.proofs.lemmas.Bool.{cases_lt, le-ltb, lt-ltb, lt-leb, ltb-false, leb-false}
 use Rattle.std.proofs.lemmas.List.{take_at, drop_at}

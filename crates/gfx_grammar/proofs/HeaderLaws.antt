@@ -1,4 +1,4 @@
--- What the header decides, whatever stands behind it.
+-- What the header decides, whatever follows it.
 use Rattle.std.proofs.Common.{◌≡◌, ℕ, zero, suc, ◌+◌, ◌*◌, ◌<◌, ◌≤◌, Bool, false, not, ◌&&◌, ◌||◌, ◌⊎◌, nat_lt, nat_eq, nat_le, List, ◌++◌, length, take, drop, Option, Some, None, refl, sym, ap, ◌∙◌, arith, inl, inr, length-append}
 use Rattle.std.specs.Int.{w32, from_le_bytes}
 use Rattle.std.proofs.lemmas.Bool.{cases_lt, le-ltb, lt-ltb, ltb-false}
@@ -104,7 +104,7 @@ step_same n at i last bytes other key value rest =
 u32_at-drop : (k at i : ℕ) (bytes : List ℕ) → i ≡ k + at → u32_at bytes i ≡ u32_at (drop k bytes) at
 u32_at-drop k at i bytes is = ap (u32_at bytes) is ∙ ap (λ (xs : List ℕ). from_le_bytes w32 (take 4 xs)) (sym (drop-drop at k bytes))
 
--- a place past the front is a place in what follows it
+-- a place past the prefix is a place in what follows it
 options_fault-behind : (n k at i last : ℕ) (bytes : List ℕ) → i ≡ k + at → options_fault bytes i last n ≡ options_fault (drop k bytes) at last n
 options_fault-behind zero k at i last bytes is = refl
 options_fault-behind (suc n) k at i last bytes is =

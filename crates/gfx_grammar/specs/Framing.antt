@@ -73,7 +73,7 @@ says_end (effect thread event) = event_ends event
 
 -- ---- a whole block
 
--- a whole block stands at the front
+-- a whole block is at the start
 pub record IsWhole (m : ℕ) (at : Position) (bytes : List ℕ) (w : Whole) : Type 0 where
   pub there : 12 ≤ length bytes
   pub head : head_fault bytes ≡ None
@@ -97,7 +97,7 @@ pub record IsFound (m : ℕ) (at : Position) (bytes : List ℕ) (w : Whole) : Ty
   pub long : length w.bytes ≡ 12 + size_field bytes
   pub next : next_position at bytes ≡ next_position at w.bytes
 
--- a block that stands nowhere yet
+-- a block that is nowhere yet
 pub record Part : Type 0 where
   pub bytes : List ℕ
   pub content : Content
@@ -149,7 +149,7 @@ written_part m w = record { bytes = encoding m w.thread w.event; content = effec
 abbrev pub written_by : ℕ → List Written → List ℕ
 written_by m ws = header m ++ flat_map (λ w. encoding m w.thread w.event) ws
 
--- a block as it stands
+-- a block that is copied
 abbrev pub part_of : Whole → Part
 part_of w = record { bytes = w.bytes; content = w.content }
 
@@ -157,7 +157,7 @@ part_of w = record { bytes = w.bytes; content = w.content }
 abbrev pub made_part : ℕ → Event → Part
 made_part m e = record { bytes = encoding m 0 e; content = effect 0 e }
 
--- the parts of a file: a section that is made, and blocks as they stand
+-- the parts of a file: a section that is made, and blocks that are copied
 abbrev pub file_parts : ℕ → List Event → List Whole → List Part
 file_parts m made blocks = map (made_part m) made ++ map part_of blocks
 

@@ -31,12 +31,12 @@ ReadIsContent = (m kind : ℕ) (bytes : List ℕ) (c : Content) → AreBytes byt
 abbrev pub ContentIsRead : Type 0
 ContentIsRead = (m kind : ℕ) (bytes : List ℕ) (c : Content) → IsContent m kind bytes c → read_content m kind bytes ≡ Some c
 
--- the list ends at the front exactly where the computed front says so
+-- the list ends at the start exactly where the computed prefix says so
 abbrev pub EndsAreComputed : Type 0
 EndsAreComputed = (m : ℕ) (at : Position) (bytes : List ℕ) (end : End) → AreBytes bytes
     → (front m at bytes ≡ Stops end → EndsHere m at bytes end) × (EndsHere m at bytes end → front m at bytes ≡ Stops end)
 
--- a whole block stands at the front exactly where the computed front says so
+-- a whole block is at the start exactly where the computed prefix says so
 abbrev pub FrontsAreComputed : Type 0
 FrontsAreComputed = (m : ℕ) (at : Position) (bytes : List ℕ) (w : Whole) → AreBytes bytes
     → (front m at bytes ≡ Finds w → IsFront m at bytes w) × (IsFront m at bytes w → front m at bytes ≡ Finds w)
@@ -47,7 +47,7 @@ BlocksAreComputed = (bytes : List ℕ) → AreBytes bytes
     → AreBlocks bytes (blocks_of bytes).items (blocks_of bytes).end
     × ((blocks : List Whole) (end : End) → AreBlocks bytes blocks end → blocks_of bytes ≡ record { items = blocks; end = end })
 
--- the blocks are what stands at the front, and then the blocks of what follows it
+-- the blocks are what is at the start, and then the blocks of what follows it
 abbrev pub BlocksGoOn : Type 0
 BlocksGoOn = (m : ℕ) (at : Position) (bytes : List ℕ)
     → blocks_from m at bytes ≡ after_front (front m at bytes) (blocks_from m (next_position at bytes) (drop (12 + size_field bytes) bytes))
@@ -114,7 +114,7 @@ WrittenIsRead = (m : ℕ) (ws : List Written) → (m ≡ 1) ⊎ (m ≡ 2) → Al
     → HaveRoom (first_position (header m)) (map (written_part m) ws)
     → blocks_of (written_by m ws) ≡ record { items = placed (first_position (header m)) (map (written_part m) ws); end = clean }
 
--- and a file of a section that is made, and of blocks as they stand
+-- and a file of a section that is made, and of blocks that are copied
 abbrev pub FileIsRead : Type 0
 FileIsRead = (m : ℕ) (made : List Event) (blocks : List Whole) → (m ≡ 1) ⊎ (m ≡ 2) → AllByRecursion (CanBeWritten m 0) made
     → AllByRecursion (λ w. IsBlock m w.bytes w.content) blocks → HaveRoom (first_position (header m)) (file_parts m made blocks)

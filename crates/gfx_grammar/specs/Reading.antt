@@ -1,4 +1,4 @@
--- Reading of fields: what stands at the front of the bytes, and the bytes behind it.
+-- Reading of fields: what is at the start of the bytes, and the bytes behind it.
 use Rattle.std.specs.Prelude.{ℕ, zero, suc, nat_lt, if◌then◌else◌, List, [], ◌∷◌, length, take, drop, Option, Some, None}
 use Rattle.std.specs.Int.{Width, byte_len, from_le_bytes, w32, w64}
 use Rattle.gfx_types.specs.declared.lists.Barrier.{Barrier}

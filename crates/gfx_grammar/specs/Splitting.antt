@@ -1,11 +1,11 @@
--- The blocks of a file, computed: what stands at the front, and then the blocks of what follows it.
+-- The blocks of a file, computed: what is at the start, and then the blocks of what follows it.
 use Rattle.std.specs.Prelude.{ℕ, zero, suc, ◌+◌, if◌then◌else◌, List, [], ◌∷◌, length, take, drop, Option, Some, None}
 use Rattle.gfx_types.specs.declared.names.Fault.{Fault}
 use Rattle.gfx_types.specs.declared.names.Fault.TheVariants.{UnknownBlock, BadParams}
 use Rattle.gfx_model.specs.Blocks.{header_fault, header_length, minor_of, Position, size_field, type_field, payload_field, framing_fault, Content, is_unknown, Whole, End, clean, bad, next_position, first_position}
 use Rattle.gfx_grammar.specs.Rows.{read_content}
 
--- what stands where a block should begin: the end of the list, or a whole block
+-- what is where a block should begin: the end of the list, or a whole block
 pub data Front : Type 0 where
   Stops : End → Front
   Finds : Whole → Front
@@ -27,7 +27,7 @@ abbrev pub with_payload : Position → (bytes : List ℕ) (kind : ℕ) (payload 
 with_payload at bytes kind payload (Some c) = Finds (block_at at bytes c)
 with_payload at bytes kind payload None = breaks at (payload_fault kind payload)
 
--- the block at the front, where its payload says this
+-- the block at the start, where its payload says this
 abbrev pub with_content : Position → List ℕ → Option Content → Front
 with_content at bytes content = with_payload at (take (12 + size_field bytes) bytes) (type_field bytes) (payload_field bytes) content
 
@@ -36,7 +36,7 @@ abbrev pub with_framing : ℕ → Position → List ℕ → Option Fault → Fro
 with_framing m at bytes (Some f) = breaks at f
 with_framing m at bytes None = with_content at bytes (read_content m (type_field bytes) (payload_field bytes))
 
--- what stands at the front in minor version m
+-- what is at the start in minor version m
 unfoldable pub front : ℕ → Position → List ℕ → Front
 front m at [] = Stops clean
 front m at (b ∷ bytes) = with_framing m at (b ∷ bytes) (framing_fault at (b ∷ bytes))
@@ -65,7 +65,7 @@ blocks_within zero m at bytes = only_end clean
 blocks_within (suc turns) m at bytes =
     after_front (front m at bytes) (blocks_within turns m (next_position at bytes) (drop (12 + size_field bytes) bytes))
 
--- the blocks of these bytes, the first of which stands here
+-- the blocks of these bytes, the first of which is here
 unfoldable pub blocks_from : ℕ → Position → List ℕ → Blocks
 blocks_from m at bytes = blocks_within (suc (length bytes)) m at bytes
 

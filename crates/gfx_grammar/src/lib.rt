@@ -23,12 +23,12 @@ pub fn content_is_read()
     ensures { ContentIsRead }
 {}
 
-/// The list ends at the front exactly where the computed front says so.
+/// The list ends at the start exactly where the computed prefix says so.
 pub fn ends_are_computed()
     ensures { EndsAreComputed }
 {}
 
-/// A block stands at the front exactly where the computed front says so.
+/// A block is at the start exactly where the computed prefix says so.
 pub fn fronts_are_computed()
     ensures { FrontsAreComputed }
 {}
@@ -38,7 +38,7 @@ pub fn blocks_are_computed()
     ensures { BlocksAreComputed }
 {}
 
-/// The blocks are what stands at the front, and then the blocks of what follows it.
+/// The blocks are what is at the start, and then the blocks of what follows it.
 pub fn blocks_go_on()
     ensures { BlocksGoOn }
 {}
@@ -93,7 +93,7 @@ pub fn written_is_read()
     ensures { WrittenIsRead }
 {}
 
-/// A file of a section that is made and of blocks as they stand has just their blocks, and ends cleanly.
+/// A file of a section that is made and of blocks that are copied has just their blocks, and ends cleanly.
 pub fn file_is_read()
     ensures { FileIsRead }
 {}

@@ -1,4 +1,4 @@
-// What stands before and behind each line of a recording.
+// What is before and behind each line of a recording.
 
 /// Is told of each line of a script, before it is put and after it was answered. Threads call it side by side, and it may hold them.
 pub trait Gate {

@@ -65,7 +65,6 @@ impl Source for MemSource {
         ensures bound { ReadsAtMost result into.new }
         ensures bytes { ReadConsumes (Some self.old.left) (Some self.new.left) result into.new }
         ensures cause { HasCause (source_faults self.old) (source_faults self.new) result }
-        ensures still { OnOk result (source_faults self.new ≡ source_faults self.old) }
         ensures fails { IsErr result ↔ Contains self.old.failing (self.old.calls + 1) }
         ensures count { IfOk result (λ count. count ≡ min (min self.old.most (length into.old)) (length self.old.left)) }
         ensures calls { self.new.calls ≡ min (self.old.calls + 1) (2 ^ 64 - 1) }
@@ -133,7 +132,6 @@ impl Sink for MemSink {
         ensures bytes { WriteAppends (Some self.old.taken) (Some self.new.taken) result piece.now }
         ensures progress { TakesSome result piece.now }
         ensures cause { HasCause (sink_faults self.old) (sink_faults self.new) result }
-        ensures still { OnOk result (sink_faults self.new ≡ sink_faults self.old) }
         ensures fails { Contains self.old.failing (self.old.calls + 1) → IsErr result }
         ensures count { IfOk result (λ count. count ≡ min self.old.most (length piece.now)) }
         ensures calls { self.new.calls ≡ min (self.old.calls + 1) (2 ^ 64 - 1) }

@@ -4,7 +4,7 @@ ghost use Rattle.std.specs.List.{All};
 
 use crate::{Failed, Source};
 
-/// A file in memory. No read of it fails.
+/// Gives the bytes of a slice, from the first on.
 #[derive(Drop)]
 pub struct SliceSource<'a> {
     pub rest: &'a [u8],

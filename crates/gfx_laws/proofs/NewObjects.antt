@@ -24,7 +24,7 @@ pub all_pass : (v : View) (cs : List Check) → first_broken v cs ≡ None → A
 all_pass v [] e = tt
 all_pass v (c ∷ cs) e = let both = first_none _ _ e in (both.0, all_pass v cs both.1)
 
--- what is new isn't 0, was not used, and stands nowhere earlier
+-- what is new isn't 0, was not used, and is nowhere earlier
 pub record IsNew (v : View) (earlier : List ℕ) (x : ℕ) : Type 0 where
   pub positive : (x == 0) ≡ false
   pub unused : v.used x ≡ false
@@ -150,7 +150,7 @@ queue_ready v ids device queue None is there e =
 pub stays_new : (v u : View) (x y : ℕ) (r : Object) → v.used x ≡ false → v.used y ≡ true → cond (x == y) (Some r) (u.live y) ≡ u.live y
 stays_new v u x y r fresh old = ap (λ t. cond t (Some r) (u.live y)) (ne_eqb x y (λ same. both_ways (v.used x) fresh (ap v.used same ∙ old)))
 
--- what was created after v has the ids that stand earlier
+-- what was created after v has the ids that are earlier
 abbrev pub IsLater : View → View → List ℕ → Type 0
 IsLater v u earlier = (x : ℕ) → v.used x ≡ false → is_among x earlier ≡ false → u.used x ≡ false
 

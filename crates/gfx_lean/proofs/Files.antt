@@ -34,7 +34,7 @@ use Rattle.gfx_range.specs.Range.{IsGathered}
 use Rattle.gfx_replay.specs.Replayer.{StandsFor}
 use Rattle.gfx_replay.specs.declared.replayer.Replayer.{Replayer}
 use Rattle.gfx_trim.specs.Cutters.{Ends}
-use Rattle.gfx_trim.specs.Numbers.{IsOutside}
+use Rattle.gfx_trim.specs.Numbers.{IsInside, IsOutside}
 use Rattle.gfx_trim.proofs.Files.{behind_last, has_shown, none_outside, outside_phase, valid_history}
 use Rattle.gfx_trim.proofs.Keeping.{HasShown, file_shows, has_range}
 use Rattle.gfx_trim.proofs.Numbers.{inside}
@@ -200,6 +200,13 @@ module _ (first last : ℕ) (p : Player) (c : Leaner) (file rest before after : 
       (is_lean first last c.minor all ws keep ordered (has_shown first last g.fed g.block g.ends) b fit (g.minor_is ∙ same) g.all
       (subst (λ a. KeepsNeeded (history_to (boundary a ws)) (events_in (boundary a ws).rest) keep) g.first_is needs))
 
+  in_file : (all : List ℕ) → BeginsWith ws all → IsInside first last (history_in all)
+  in_file all b =
+      let h = has_shown first last g.fed g.block g.ends in
+      inside first last (history_in all) (valid_history all)
+      (file_shows first ws all h.valid b (begun_is_shown first last ws h.valid h.there ordered h.shown))
+      (file_shows last ws all h.valid b h.shown)
+
   lean_done : Wrote c.minor c.first (history_to (boundary c.first ws)) (boundary c.first ws).rest before after → IfTold file rest (AnswersIfBytes first last before after (Ok tt))
   lean_done wrote =
       told_if file rest _ (AnswersIfBytes first last before after (Ok tt)) g.read.told
@@ -210,9 +217,7 @@ module _ (first last : ℕ) (p : Player) (c : Leaner) (file rest before after : 
       let lean = lean_as wrote.keep all b fit was.1 wrote.keeps in
       let range = has_range first last ws all ordered h b fit in (
         record {
-          inside = inside first last (history_in all) (valid_history all)
-              (file_shows first ws all h.valid b (begun_is_shown first last ws h.valid h.there ordered h.shown))
-              (file_shows last ws all h.valid b h.shown);
+          inside = in_file all b;
           out = out;
           took = wrote.file;
           lean = lean;
@@ -231,6 +236,7 @@ module _ (first last : ℕ) (p : Player) (c : Leaner) (file rest before after : 
   part_of_lean : (all : List ℕ) → BeginsWith ws all → AreBytes all → p.minor ≡ minor_of all → WrotePart c.minor c.first (history_to (boundary c.first ws)) (boundary c.first ws).rest before after →
       IsPart first last before after all
   part_of_lean all b fit same wrote = record {
+    inside = in_file all b;
     out = lean_text c.minor wrote.keep (history_to (boundary c.first ws)) c.first (flat_map (λ w. w.bytes) (boundary c.first ws).rest);
     took = wrote.file;
     lean = lean_as wrote.keep all b fit same wrote.keeps;

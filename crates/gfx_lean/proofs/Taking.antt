@@ -36,7 +36,7 @@ use Rattle.gfx_trim.proofs.Taking.{start_before, start_waiting}
 use Rattle.gfx_lean.specs.Leaner.{GoesOn, HasRangeOf, IsAfter, IsFollowed, IsGathering, IsOfSameRange, Takes}
 use Rattle.gfx_lean.specs.declared.leaner.Leaner.{Leaner}
 
--- what stands behind one block more
+-- what follows one block more
 pub followed_on : (f : Follower) (fed : List Whole) (w : Whole) (number : Option ℕ) → Followed f (history_of fed) w.content number → Follows f (history_of (fed ++ w ∷ []))
 followed_on f fed w number d = subst (Follows f) (sym (history_more fed w)) d.follows
 

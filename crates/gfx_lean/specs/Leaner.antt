@@ -73,13 +73,13 @@ pub record Wrote (m first : ℕ) (h : List Event) (ws : List Whole) (before afte
   pub keeps : KeepsNeeded h (events_in ws) keep
   pub file : Appends before after (lean_text m keep h first (flat_map (λ w. w.bytes) ws))
 
--- or a front of that
+-- or a prefix of that
 pub record WrotePart (m first : ℕ) (h : List Event) (ws : List Whole) (before after : Option (List ℕ)) : Type 0 where
   pub keep : Keep
   pub keeps : KeepsNeeded h (events_in ws) keep
   pub file : AppendsPart before after (lean_text m keep h first (flat_map (λ w. w.bytes) ws))
 
--- what a write that failed left: a front of the file, or nothing for want of memory
+-- what a write that failed left: a prefix of the file, or nothing when out of memory
 abbrev pub IsFailed : (m first : ℕ) → List Event → List Whole → Option (List ℕ) → Option (List ℕ) → PlayFault → Type 0
 IsFailed m first h ws before after (play.Bad fault block offset) = ⊥
 IsFailed m first h ws before after (play.NoSuchFrame low high) = ⊥

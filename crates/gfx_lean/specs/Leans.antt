@@ -40,7 +40,7 @@ pub record IsWithout (first last : ℕ) (before after : Option (List ℕ)) (low 
   pub none : after ≡ before
   pub read : left ≡ []
 
--- A read failed behind these bytes. Neither a bad block nor the last frame of the range stands in them, and the next block
+-- A read failed behind these bytes. Neither a bad block nor the last frame of the range is in them, and the next block
 -- isn't whole; nothing was written.
 pub record IsCut (first last : ℕ) (before after : Option (List ℕ)) (bytes left : List ℕ) : Type 0 where
   pub given : List ℕ
@@ -50,13 +50,14 @@ pub record IsCut (first last : ℕ) (before after : Option (List ℕ)) (bytes le
   pub outside : IsOutside first last (history_in given)
   pub none : after ≡ before
 
--- a front of the lean file was written
+-- the range is in the file, and a prefix of its lean file was written
 pub record IsPart (first last : ℕ) (before after : Option (List ℕ)) (bytes : List ℕ) : Type 0 where
+  pub inside : IsInside first last (history_in bytes)
   pub out : List ℕ
   pub took : AppendsPart before after out
   pub lean : IsLean first last bytes out
 
--- what was written, by the answer: the lean file, a front of it, or nothing
+-- what was written, by the answer: the lean file, a prefix of it, or nothing
 abbrev pub Answers : (first last : ℕ) → Option (List ℕ) → Option (List ℕ) → Result Unit PlayFault → List ℕ → List ℕ → Type 0
 Answers first last before after (Ok done) bytes left = IsDone first last before after bytes left
 Answers first last before after (Err (play.Bad fault block offset)) bytes left = IsBadAt first last before after fault block offset bytes

@@ -57,7 +57,7 @@ impl Leaner {
         }
     }
 
-    /// Takes a block that a player read, and lets go of it. Answers whether it was the last of the range.
+    /// Takes a block that a player read, and drops it. Answers whether it was the last of the range.
     pub(crate) fn take(
         &mut self,
         alloc: Global,

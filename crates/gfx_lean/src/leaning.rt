@@ -1,4 +1,7 @@
 //! A range of frames of a file, without what it never needs.
+//!
+//! What a range needs is known at its last block, so nothing is written before, and a bad block or a failed read
+//! leaves the sink as it was.
 ghost use Rattle.std.specs.Prelude.{◌≡◌, ◌≢◌, ◌≤◌, List, ℕ, [], Err, IfErr, OnOk};
 ghost use Rattle.std.specs.declared.option.Option.{Option as Maybe};
 ghost use Rattle.gfx_decode.specs.Reachable.{IsBehind};
@@ -15,7 +18,7 @@ use gfx_player::{PlayFault, Player};
 use std::alloc::Global;
 
 /// Writes the lean file of the frames `first` to `last` of a file: a header, a section with just what the frames need of what
-/// was made before them, and their blocks as they stand. What follows frame `last` is not read, and nothing is written before
+/// was made before them, and their blocks unchanged. What follows frame `last` is not read, and nothing is written before
 /// it was. A bad block is told where it is met, and a range that is not in the file where the file ends.
 pub fn lean<S: Source, K: Sink>(
     alloc: Global,
@@ -56,7 +59,7 @@ fn lean_range<S: Source, K: Sink>(
     leaned
 }
 
-// The same, where a player has read the header. It is lent: each way out of a function that owns it would drop it.
+// Writes the lean file where a player has read the header. It is lent: each way out of a function that owns it would drop it.
 fn lean_opened<S: Source, K: Sink>(
     alloc: Global,
     first: u64,

@@ -67,7 +67,7 @@ fn write_lean<P: Keep, K: Sink>(
     Ok(())
 }
 
-// The fault of a section that isn't written whole, handed on.
+// The fault of a section that isn't written whole, passed on.
 fn state_fault(fault: StateFault) -> PlayFault
     ensures { result ≡ of_state fault }
 {

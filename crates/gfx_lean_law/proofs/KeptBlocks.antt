@@ -59,7 +59,7 @@ module _ (k : ℕ → Bool) (keep : Keep) (v : View) (es : List Change) (c : IsC
   goes [] a = refl
   goes (e ∷ xs) a = ap (λ t. (if t then kept_block keep e else []) ++ flat_map ke xs) a.0 ∙ goes xs a.1
 
-  -- a block of x that is kept as it stands
+  -- a block of x that is kept unchanged
   abbrev Own : ℕ → Event → Type 0
   Own x e = (asks e ≡ keep.id x) × (kept_block keep e ≡ e ∷ [])
 

@@ -40,7 +40,7 @@ same_events (w ∷ ws) = by w.content (same_events ws)
     by skipped more = more
     by (effect thread event) more = ap (λ r. event ∷ r) more
 
--- what stands behind the blocks without a fault does not matter for the range
+-- what follows the blocks without a fault does not matter for the range
 same_cut : (first last : ℕ) (bytes : List ℕ) (shown : List Frame) (r : HasRange first last bytes shown) (s : Shows last bytes shown) (others : List Whole) →
     (history_to (boundary first ((s.valid).good ++ others)) ≡ history_to (boundary first (s.valid).good))
     × (range_from last (boundary first ((s.valid).good ++ others)) ≡ range_from last (boundary first (s.valid).good))

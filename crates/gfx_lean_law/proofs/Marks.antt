@@ -1,4 +1,4 @@
--- Marks that grow by what a marked id stands on.
+-- Marks that grow by what a marked id depends on.
 use Rattle.std.proofs.Common.{◌≡◌, ℕ, Bool, true, false, refl, sym, ◌∙◌, ap, subst, List, [], ◌∷◌, ◌++◌, flat_map, Option, Some, None, if◌then◌else◌, is_some, ◌⊎◌, inl, inr}
 use Rattle.std.specs.Prelude.{Contains}
 use Rattle.std.specs.Option.{option_map_or}
@@ -11,7 +11,7 @@ use Rattle.gfx_feature_model.specs.Lean.Needed.{as_parent, as_memory, as_surface
 use Rattle.gfx_lean_law.specs.Computed.{stands_on, NeededByList}
 use Rattle.gfx_lean_law.proofs.Contained.{contains_here, contains_before, contains_behind, contains_split, contains_one, contains_none}
 
--- why x stands on y
+-- why x depends on y
 pub data StandsBy (v : View) (x y : ℕ) : Type 0 where
   by_parent : is_some (v.live (parent_of v x)) ≡ true → parent_of v x ≡ y → StandsBy v x y
   by_memory : (b : Binding) → is_usable v x ≡ true → v.bound x ≡ Some b → b.memory ≡ y → StandsBy v x y
@@ -93,7 +93,7 @@ module _ (v : View) (x : ℕ) where
   by_stands y (StandsBy.by_resource e c) =
       contains_behind (parents ++ memories ++ surfaces ++ fetched v x) named _ (subst (λ b. Contains (if b then flat_map resources_of (v.buffer x).commands else []) y) (sym e) c)
 
--- what a needed id stands on is needed
+-- what a needed id depends on is needed
 needed_below : (v : View) (range : List Event) (x y : ℕ) → Needed v range x → StandsBy v x y → Needed v range y
 needed_below v range x y n (StandsBy.by_parent e is) = subst (Needed v range) is (as_parent x e n)
 needed_below v range x y n (StandsBy.by_memory b u at is) = as_memory x y u (ap (λ o. option_map_or (λ (b : Binding). Some b.memory) o None) at ∙ ap Some is) n

@@ -1,4 +1,4 @@
--- What a range needs keeps what it stands on, and the range names nothing else that is live.
+-- What a range needs keeps what it depends on, and the range names nothing else that is live.
 use Rattle.std.proofs.Common.{◌≡◌, ℕ, ◌+◌, ◌<◌, Bool, true, false, refl, sym, ◌∙◌, ap, subst, arith, List, ◌++◌, filter, flat_map, Option, Some, None, if◌then◌else◌, is_some, not, ◌==◌, ◌&&◌, ◌||◌, option_and_then}
 use Rattle.std.specs.Prelude.{Contains, IsTrue}
 use Rattle.std.specs.List.{AllByRecursion, range_with_len}

@@ -178,7 +178,7 @@ module _ (keep : Fills) (live : ℕ → Option Object) (es : List Change) where
       by None e d = absurd (cc)
       by (Some s) e d = (s, e, not-true (keep m s.at s.length) d)
 
-  -- A byte that changes stands in a fill that is dropped: where no fill over an index is dropped, its byte stays.
+  -- A byte that changes is in a fill that is dropped: where no fill over an index is dropped, its byte stays.
   pub byte_stays : (ids : List ℕ) (m i : ℕ) → ((s : Span) → IsCovered i s → keep m s.at s.length ≡ true) → byte (zeros ids ++ es) (place.Memory m) i ≡ old m i
   byte_stays ids m i kept = hit_byte (zeros ids) (zeros_are ids) (place.Memory m) i ∙ by (hits (zeros ids) (place.Memory m) i) refl
     where

@@ -14,7 +14,7 @@ use Rattle.gfx_feature_model.specs.Lean.{Needed, named_in, surface_of, IsAsked, 
 
 -- ---- needed ids
 
--- Marks that hold what the range names, and with each marked id what it stands on.
+-- Marks that hold what the range names, and with each marked id what it depends on.
 pub record AreMarked (v : View) (range : List Event) (id : ℕ → Bool) : Type 0 where
   pub named : (x : ℕ) → IsTrue (is_some (v.live x)) → Contains (named_in range) x → IsTrue (id x)
   pub parent : (x : ℕ) → IsTrue (is_some (v.live (parent_of v x))) → IsTrue (id x) → IsTrue (id (parent_of v x))
@@ -27,7 +27,7 @@ pub record AreMarked (v : View) (range : List Event) (id : ℕ → Bool) : Type 
 abbrev pub NeededIsMarked : Type 0
 NeededIsMarked = (v : View) (range : List Event) (id : ℕ → Bool) → AreMarked v range id → (x : ℕ) → Needed v range x → IsTrue (id x)
 
--- what x stands on: its parent, the memory under it, its surface, its fetched images, and what its commands name
+-- what x depends on: its parent, the memory under it, its surface, its fetched images, and what its commands name
 abbrev pub stands_on : View → ℕ → List ℕ
 stands_on v x =
     (if is_some (v.live (parent_of v x)) then parent_of v x ∷ [] else [])
@@ -36,14 +36,14 @@ stands_on v x =
     ++ fetched v x
     ++ (if is_kept (v.buffer x).state then flat_map resources_of (v.buffer x).commands else [])
 
--- What a list of marks that grows needs: what a needed id stands on is needed, and marks of which each stands on marked
+-- What a list of marks that grows needs: what a needed id depends on is needed, and marks of which each depends on marked
 -- ids alone hold all that is needed.
 pub record ByList (v : View) (range : List Event) : Type 0 where
   pub more : (x y : ℕ) → Needed v range x → Contains (stands_on v x) y → Needed v range y
   pub all : (id : ℕ → Bool) → ((x : ℕ) → IsTrue (is_some (v.live x)) → Contains (named_in range) x → IsTrue (id x)) →
       ((x y : ℕ) → IsTrue (id x) → Contains (stands_on v x) y → IsTrue (id y)) → AreMarked v range id
 
--- marks that grow by what a marked id stands on are just what is needed
+-- marks that grow by what a marked id depends on are just what is needed
 abbrev pub NeededByList : Type 0
 NeededByList = (v : View) (range : List Event) → ByList v range
 

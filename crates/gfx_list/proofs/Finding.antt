@@ -1,4 +1,4 @@
--- Where the first line feed stands in what was read.
+-- Where the first line feed is in what was read.
 use Rattle.std.proofs.Common.{◌≡◌, ℕ, zero, suc, ◌+◌, ◌-◌, ◌<◌, ◌≤◌, ◌==◌, not, Bool, true, false, List, [], ◌∷◌, ◌++◌, length, take, drop, get_or, Option, Some, None, refl, sym, ap, subst, ◌∙◌, arith, append_assoc, length-drop, take-append-drop}
 use Rattle.std.specs.Prelude.{MatchOption}
 use Rattle.std.specs.Io.KnownBytes.{Consumes, Keeps}
@@ -18,7 +18,7 @@ is_false : (b : Bool) → ¬ (b ≡ true) → b ≡ false
 is_false true h = absurd (h refl)
 is_false false h = refl
 
--- the byte stands at no place before k
+-- the byte is at no place before k
 without_front : (c k : ℕ) (xs : List ℕ) → ((i : ℕ) → i < k → (get_or xs i 0 == c) ≡ false) → is_without c (take k xs) ≡ true
 without_front c zero xs none = refl
 without_front c (suc k) [] none = refl
@@ -29,7 +29,7 @@ without_all : (c : ℕ) (xs : List ℕ) → ((i : ℕ) → i < length xs → (ge
 without_all c [] none = refl
 without_all c (x ∷ xs) none = and_from _ _ (ap not (none 0 (omega arith))) (without_all c xs (λ i less. none (suc i) (omega (arith, less))))
 
--- it stands at k first
+-- it is at k first
 at_first : (c k : ℕ) (xs : List ℕ) → k < length xs → (get_or xs k 0 == c) ≡ true → xs ≡ take k xs ++ (c ∷ drop (k + 1) xs)
 at_first c k xs within here =
     let behind : suc k ≡ k + 1 = omega arith in
@@ -37,7 +37,7 @@ at_first c k xs within here =
     ∙ ap (λ b. take k xs ++ (b ∷ drop (suc k) xs)) (eqb-true (get_or xs k 0) c here)
     ∙ ap (λ n. take k xs ++ (c ∷ drop n xs)) behind
 
--- a text without the byte in front, and a search behind that
+-- a text without the byte before it, and a search behind that
 pub feed_found : (searched k : ℕ) (text : List ℕ) → searched ≤ length text → is_without 10 (take searched text) ≡ true
     → NoneBefore (Passes (is_byte 10) (drop searched text)) 0 (length (drop searched text)) k → Passes (is_byte 10) (drop searched text) k → HasLineTo (searched + k) text
 feed_found searched k text room before none here =

@@ -25,7 +25,7 @@ pub unlists_all : (end : Result Unit UnlistFault) (before mid after : Option (Li
     → UnlistsBy (Held before mid held) (HeldPart before mid held) end text left → UnlistsBy (Appends before after) (AppendsPart before after) end text left
 unlists_all (Ok done) before mid after held text left more a =
     record { bytes = a.bytes; are_bytes = a.are_bytes; listing = a.listing; file = held_all before mid after held a.bytes a.file more; read = a.read }
-unlists_all (Err (BadListing number)) before mid after held text left more a = record { bad = a.bad; file = held_all before mid after held (bytes_in a.bad.lines) a.file more }
+unlists_all (Err (BadListing number)) before mid after held text left more a = record { bad = a.bad; file = held_all before mid after held (bytes_in a.bad.lines) a.file more; read = a.read }
 unlists_all (Err ReadFault) before mid after held text left more a = record {
   given = a.given;
   parts = a.parts;
@@ -33,6 +33,7 @@ unlists_all (Err ReadFault) before mid after held text left more a = record {
   rest = a.rest;
   begins = a.begins;
   cut = a.cut;
+  short = a.short;
   file = held_all before mid after held (bytes_in a.lines) a.file more;
 }
 unlists_all (Err SinkFault) before mid after held text left more a =
@@ -47,7 +48,7 @@ lines_of bytes text l read is =
     let a = bind_some (whole_lines text) read_lines l read in
     (a.0, lines_bytes a.0 l a.2 ∙ is, record { parts = lines_takes text a.0 a.1 ∙ sym (append-nil (flat_map line a.0)); are_read = inr (ap is_some a.2) })
 
--- or a front of it
+-- or a prefix of it
 pub unlists_front : (end : Result Unit UnlistFault) (before mid after : Option (List ℕ)) (held text left : List ℕ) → AppendsPart mid after held
     → UnlistsBy (Held before mid held) (HeldPart before mid held) end text left → IsFront (AppendsPart before after) text
 unlists_front (Ok done) before mid after held text left part a =

@@ -46,7 +46,7 @@ block_long bytes (m, content, b) = let long = b.long in omega (arith, long)
 pub part_is_block : (m : ℕ) (line : List ℕ) (p : Part) → read_line m line ≡ Some p → IsSomeBlock p.bytes
 part_is_block m line p is = (m, p.content, (line_takes m line p is).block)
 
--- what stands behind the old bytes
+-- what follows the old bytes
 pub behind_old : (old new part : List ℕ) (front : ℕ) → front ≡ length old → new ≡ old ++ part → drop front new ≡ part
 behind_old old new part front long is = ap (drop front) is ∙ drop_at old part front (sym long)
 

@@ -85,7 +85,7 @@ pub no_first_line : (h : List ℕ) → read_header h ≡ None → read_lines (h 
 unfolding read_lines
 no_first_line h is = ap (λ (o : Option (List ℕ)). o >>= λ header. each_read (read_line (minor_of header)) [] >>= if_room header) is
 
--- where the next block stands behind those of the lines
+-- where the next block follows those of the lines
 abbrev pub place_in : Listed → Position
 place_in l = place_after (first_position l.header) l.parts
 

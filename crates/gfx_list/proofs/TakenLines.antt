@@ -16,11 +16,11 @@ use Rattle.gfx_text_grammar.specs.Splits.{is_without}
 use Rattle.gfx_text_grammar.specs.Lines.{read_line}
 use Rattle.gfx_text_grammar.specs.Listings.{Listed, file_of, read_lines, read_listing}
 use Rattle.gfx_text_grammar.proofs.TextLaws.{read_is_listed}
-use Rattle.gfx_listing_law.specs.Fronts.{BeginsWith, IsCutLine, IsLongLine, bytes_in}
+use Rattle.gfx_listing_law.specs.Fronts.{BeginsWith, IsCutLine, IsLongLine, bytes_in, max_line_bytes}
 use Rattle.gfx_rewrite.specs.Held.{Held, HeldPart}
 use Rattle.gfx_list.specs.Lines.{EndsInLine, Finds, HasLineTo, Reads}
 use Rattle.gfx_list.specs.Parts.{IsNoBlock, TakesBlock}
-use Rattle.gfx_list.specs.Unlists.{IsBadListing, IsFront, IsUnread, UnlistsBy}
+use Rattle.gfx_list.specs.Unlists.{IsBadListing, IsFront, IsUnread, UnlistsBy, read_ahead}
 use Rattle.gfx_list.specs.declared.fault.UnlistFault.{UnlistFault}
 use Rattle.gfx_list.specs.declared.fault.UnlistFault.TheVariants.{BadListing, ReadFault, SinkFault, WantMemory}
 use Rattle.gfx_rewrite.proofs.Holding.{held_as, held_failed, held_more, held_some, part_held}
@@ -148,8 +148,8 @@ ends_here lines new left (inr (next, more, is, without, long)) =
 
 -- a line that is no block with room
 refused : (m : ℕ) (at : Position) (before after : Option (List ℕ)) (end number : ℕ) (held pending text left : List ℕ) → Unlisting m at before after held pending text left
-    → HasLineTo end pending → IsNoBlock m at (take end pending) (BadListing number) → IsBadListing (Held before after held) number text
-refused m at before after end number held pending text left u h (is, none) =
+    → HasLineTo end pending → length pending < read_ahead → IsNoBlock m at (take end pending) (BadListing number) → IsBadListing (Held before after held) number text left
+refused m at before after end number held pending text left u h few (is, none) =
     let next = take end pending in
     let rest = drop (end + 1) pending in
     let count = u.number in
@@ -170,6 +170,7 @@ refused m at before after end number held pending text left u h (is, none) =
         );
       };
       file = bytes_held m at before after held pending text left u;
+      read = record { ahead = pending; parts = u.parts; short = few };
     }
 
 -- there is no memory, which leaves what was held
@@ -184,31 +185,32 @@ memory m at before after held new pending text left u same = record {
 
 -- why a line gave no block
 pub no_block : (m : ℕ) (at : Position) (why : UnlistFault) (before after : Option (List ℕ)) (end : ℕ) (held new pending text left : List ℕ) → Unlisting m at before after held pending text left
-    → HasLineTo end pending → IsNoBlock m at (take end pending) why → new ≡ held
+    → HasLineTo end pending → length pending < read_ahead → IsNoBlock m at (take end pending) why → new ≡ held
     → UnlistsBy (Held before after new) (HeldPart before after new) (Err why) text left
-no_block m at (BadListing number) before after end held new pending text left u h none same =
-    subst (λ xs. IsBadListing (Held before after xs) number text) (sym same) (refused m at before after end number held pending text left u h none)
-no_block m at ReadFault before after end held new pending text left u h none same = absurd none
-no_block m at SinkFault before after end held new pending text left u h none same = absurd none
-no_block m at WantMemory before after end held new pending text left u h none same = memory m at before after held new pending text left u same
+no_block m at (BadListing number) before after end held new pending text left u h few none same =
+    subst (λ xs. IsBadListing (Held before after xs) number text left) (sym same) (refused m at before after end number held pending text left u h few none)
+no_block m at ReadFault before after end held new pending text left u h few none same = absurd none
+no_block m at SinkFault before after end held new pending text left u h few none same = absurd none
+no_block m at WantMemory before after end held new pending text left u h few none same = memory m at before after held new pending text left u same
 
 -- a read failed behind whole lines
 unread : (m : ℕ) (at : Position) (before after : Option (List ℕ)) (held pending text left : List ℕ) → Unlisting m at before after held pending text left → is_without 10 pending ≡ true
-    → IsUnread (Held before after held) text left
-unread m at before after held pending text left u without = record {
+    → length pending < max_line_bytes → IsUnread (Held before after held) text left
+unread m at before after held pending text left u without short = record {
   given = flat_map line u.lines ++ pending;
   parts = u.parts ∙ sym (append_assoc (flat_map line u.lines) pending left);
   lines = u.lines;
   rest = pending;
   begins = record { parts = refl; are_read = inr (ap is_some u.read) };
   cut = without;
+  short = short;
   file = bytes_held m at before after held pending text left u;
 }
 
 -- the input ends in a line, or this has too many bytes
 bad_end : (m number found : ℕ) (at : Position) (before after : Option (List ℕ)) (held new text rest : List ℕ) → number ≡ at.number + 1 → found ≡ number → EndsInLine new (Some rest)
-    → Unlisting m at before after held new text rest → IsBadListing (Held before after held) found text
-bad_end m number found at before after held new text rest is same ends u =
+    → length new < read_ahead → Unlisting m at before after held new text rest → IsBadListing (Held before after held) found text rest
+bad_end m number found at before after held new text rest is same ends few u =
     let count = u.number in
     record {
       bad = record {
@@ -219,6 +221,7 @@ bad_end m number found at before after held new text rest is same ends u =
         stops = inr (ends_here u.lines new rest ends);
       };
       file = bytes_held m at before after held new text rest u;
+      read = record { ahead = new; parts = u.parts; short = few };
     }
 
 -- with what is known of the bytes that are left
@@ -231,11 +234,11 @@ told_now (Some x) (Some y) Q P R q p f = f x y q p
 pub no_line : (m number : ℕ) (at : Position) (why : UnlistFault) (before after : Option (List ℕ)) (held pending new : List ℕ) (first old now : Option (List ℕ)) → number ≡ at.number + 1
     → IfTold first old (Unlisting m at before after held pending) → Finds number pending old new now (Err why)
     → IfTold first now (UnlistsBy (Held before after held) (HeldPart before after held) (Err why))
-no_line m number at (BadListing found) before after held pending new first old now is told (reads, same, ends) =
+no_line m number at (BadListing found) before after held pending new first old now is told (reads, same, ends, few) =
     told_now first now (EndsInLine new) _ _ ends (told_reads m at before after held pending new first old now told reads)
-    (λ text rest end u. bad_end m number found at before after held new text rest is same end u)
-no_line m number at ReadFault before after held pending new first old now is told (reads, without) =
-    told_if first now _ _ (told_reads m at before after held pending new first old now told reads) (λ text left u. unread m at before after held new text left u without)
+    (λ text rest end u. bad_end m number found at before after held new text rest is same end few u)
+no_line m number at ReadFault before after held pending new first old now is told (reads, without, short) =
+    told_if first now _ _ (told_reads m at before after held pending new first old now told reads) (λ text left u. unread m at before after held new text left u without short)
 no_line m number at SinkFault before after held pending new first old now is told none = absurd none
 no_line m number at WantMemory before after held pending new first old now is told (piece, came) =
     told_piece first old now piece _ _ told came (λ text left rest u more. memory m at before after held held pending text left u refl)

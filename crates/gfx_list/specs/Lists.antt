@@ -17,7 +17,7 @@ in_listing = record { of_header = λ bytes. line (header_text bytes); of_block =
 abbrev pub listed : List ℕ → List ℕ
 listed bytes = if is_none (header_fault bytes) then listing_of bytes (blocks_of bytes).items else []
 
--- what was written, by the answer: the listing, what stands of it before the end of the file, or a front of that
+-- what was written, by the answer: the listing, what stands of it before the end of the file, or a prefix of that
 abbrev pub Answers : Option (List ℕ) → Option (List ℕ) → Result Unit PlayFault → List ℕ → List ℕ → Type 0
 Answers before after result bytes left = rewrites.Answers listed before after result bytes left
 

@@ -19,7 +19,7 @@ abbrev pub fault_of : ℕ → LineFault → UnlistFault
 fault_of number of_line.BadLine = BadListing number
 fault_of number of_line.WantMemory = WantMemory
 
--- where the first block stands behind a header of so many bytes
+-- where the first block follows a header of so many bytes
 abbrev pub first_place : ℕ → Position
 first_place long = record { number = 1; offset = long; in_section = false; inside = 0; outside = 0 }
 

@@ -1,4 +1,4 @@
-//! Why a listing was not read to its end.
+//! Faults of listings.
 ghost use Rattle.std.specs.Prelude.{◌≡◌};
 ghost use Rattle.gfx_list.specs.declared.fault.UnlistFault.TheVariants.{SinkFault as NoSink, WantMemory as NoMemory};
 

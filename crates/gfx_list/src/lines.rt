@@ -4,6 +4,7 @@ ghost use Rattle.std.specs.Io.KnownBytes.{Consumes, IsAtEnd};
 ghost use Rattle.gfx_io.specs.Causes.{Rose};
 ghost use Rattle.gfx_text_grammar.specs.Splits.{is_without};
 ghost use Rattle.gfx_list.specs.Lines.{Finds, FindsFeed, HasLineTo, IsUngiven};
+ghost use Rattle.gfx_list.specs.Unlists.{read_ahead};
 
 use crate::UnlistFault;
 use crate::reading::read_some;
@@ -53,6 +54,7 @@ impl Lines {
         source: &mut S,
         number: u64,
     ) -> Result<Option<usize>, UnlistFault>
+        requires { length self.old < read_ahead }
         ensures finds { Finds number self.old (S.left source.old) self.new (S.left source.new) result }
         ensures later { S.faults source.old ≤ S.faults source.new }
         ensures cause { result ≡ Err UnlistFault.ReadFault → Rose (S.faults source.old) (S.faults source.new) }
@@ -97,9 +99,10 @@ impl Lines {
         self.buffer.len() - self.start
     }
 
-    /// Reads on up to the first line feed, and answers how many bytes stand before it; None where the input ends before one, or there are
+    /// Reads on up to the first line feed, and answers how many bytes are before it; None where the input ends before one, or there are
     /// too many bytes for a line.
     fn find_feed<S: Source>(&mut self, source: &mut S) -> Result<Option<usize>, UnlistFault>
+        requires { length self.old < read_ahead }
         ensures finds { FindsFeed self.old (S.left source.old) self.new (S.left source.new) result }
         ensures later { S.faults source.old ≤ S.faults source.new }
         ensures cause { result ≡ Err UnlistFault.ReadFault → Rose (S.faults source.old) (S.faults source.new) }
@@ -119,7 +122,7 @@ impl Lines {
         Ok(None)
     }
 
-    /// How many bytes stand before the first line feed, which is none of the first `searched` bytes.
+    /// How many bytes are before the first line feed, which is none of the first `searched` bytes.
     fn feed_behind(&self, searched: usize) -> Option<usize>
         requires within { searched ≤ length self.now }
         requires without { is_without 10 (take searched self.now) ≡ true }
@@ -131,12 +134,13 @@ impl Lines {
         }
     }
 
-    /// Reads some of the next bytes, none only where the input ends. What was passed is let go.
+    /// Reads some of the next bytes, none only where the input ends. What was passed is dropped.
     fn read_more<S: Source>(&mut self, source: &mut S) -> Result<usize, UnlistFault>
         requires { length self.old < 2 ^ 29 }
         ensures some { IfOk result (λ count. (piece : List ℕ) × (length piece ≡ count) × (self.new ≡ self.old ++ piece)
             × Consumes (S.left source.old) (S.left source.new) piece) }
         ensures ended { IfOk result (λ count. count ≡ 0 → IsAtEnd (S.left source.new)) }
+        ensures few { IfOk result (λ count. count ≤ 2 ^ 16) }
         ensures none { OnErr result (Consumes (S.left source.old) (S.left source.new) []) }
         ensures why { IfErr result IsUngiven }
         ensures kept { result ≡ Err UnlistFault.ReadFault → self.new ≡ self.old }

@@ -66,7 +66,7 @@ pub(crate) fn take_block(
     }
 }
 
-/// Where the next block stands behind this one, None where there is no room for it.
+/// Where the next block follows this one, None where there is no room for it.
 fn place_after(at: Position, block: &[u8]) -> Option<Position>
     requires reach { IsInReach (position_of at) }
     requires block { IsSomeBlock block.now }

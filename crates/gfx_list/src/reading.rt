@@ -20,6 +20,7 @@ pub(crate) fn read_some<S: Source>(
     ensures some { IfOk result (λ count. (piece : List ℕ) × (length piece ≡ count) × (buffer.new.items ≡ buffer.old.items ++ piece)
         × Consumes (S.left source.old) (S.left source.new) piece) }
     ensures ended { IfOk result (λ count. count ≡ 0 → IsAtEnd (S.left source.new)) }
+    ensures few { IfOk result (λ count. count ≤ 2 ^ 16) }
     ensures none { OnErr result (Consumes (S.left source.old) (S.left source.new) []) }
     ensures why { IfErr result IsUngiven }
     ensures kept { result ≡ Err UnlistFault.ReadFault → buffer.new.items ≡ buffer.old.items }

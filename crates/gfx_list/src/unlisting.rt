@@ -1,10 +1,10 @@
 //! The file of a listing, line by line.
-ghost use Rattle.std.specs.Prelude.{◌≡◌, ◌≢◌, ◌≤◌, [], Err, IfOk, OnErr};
+ghost use Rattle.std.specs.Prelude.{◌≡◌, ◌≢◌, ◌<◌, ◌≤◌, [], length, Err, IfOk, OnErr};
 ghost use Rattle.gfx_io.specs.Causes.{Rose};
 ghost use Rattle.gfx_io.specs.Told.{IfTold};
 ghost use Rattle.gfx_rewrite.specs.Held.{Held, HeldPart};
 ghost use Rattle.gfx_list.specs.Parts.{IsHeaderOf, Opens};
-ghost use Rattle.gfx_list.specs.Unlists.{Unlists, UnlistsBy};
+ghost use Rattle.gfx_list.specs.Unlists.{Unlists, UnlistsBy, read_ahead};
 
 use crate::UnlistFault;
 use crate::lines::Lines;
@@ -31,7 +31,7 @@ pub fn unlist<S: Source, K: Sink>(
     end
 }
 
-/// The same, but the last bytes are held back.
+/// Writes the file of a listing, and holds back the last bytes, which make no whole piece.
 fn unlist_held<S: Source, K: Sink>(
     alloc: Global,
     source: &mut S,
@@ -65,6 +65,7 @@ fn read_first<S: Source>(
     requires { (lines.old ≡ []) × (bytes.old.items ≡ []) }
     ensures told { IfTold (S.left source.old) (S.left source.new) (Opens bytes.new.items lines.new result) }
     ensures header { IfOk result (λ minor. IsHeaderOf minor bytes.new.items) }
+    ensures few { IfOk result (λ _. length lines.new < read_ahead) }
     ensures unchanged { OnErr result (bytes.new.items ≡ []) }
     ensures read_fault { result ≡ Err UnlistFault.ReadFault → Rose (S.faults source.old) (S.faults source.new) }
     ensures sink_fault { result ≢ Err UnlistFault.SinkFault }

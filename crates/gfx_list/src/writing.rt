@@ -41,7 +41,7 @@ impl Rewriter for Listing {
     }
 }
 
-/// Appends the line of a block. After want of memory the text is as it was.
+/// Appends the line of a block. When out of memory the text is as it was.
 fn put_block_line(minor: u32, raw: &Raw<'_>, text: &mut Vec<u8>) -> Result<(), WantMemory>
     requires { IsBlock minor raw.now.bytes.now (content_of raw.now.block) }
     ensures ok { OnOk result (text.new.items ≡ text.old.items ++ line (block_text minor raw.now.bytes.now (content_of raw.now.block))) }
@@ -52,7 +52,7 @@ fn put_block_line(minor: u32, raw: &Raw<'_>, text: &mut Vec<u8>) -> Result<(), W
     end_line(front, text)
 }
 
-/// Ends a line that begins at a place. After want of memory it is let go.
+/// Ends a line that begins at a place. When out of memory it is dropped.
 fn end_line(front: usize, text: &mut Vec<u8>) -> Result<(), WantMemory>
     requires { front ≤ length text.old.items }
     ensures ok { OnOk result (text.new.items ≡ text.old.items ++ 10 ∷ []) }

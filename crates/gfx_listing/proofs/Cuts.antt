@@ -30,7 +30,7 @@ taken : {X : Type 0} (o : Option X) → finish (with_rest [] o) ≡ o
 taken (Some x) = refl
 taken None = refl
 
--- more stands behind the word
+-- more follows the word
 left_over : {X : Type 0} (o : Option X) (c : ℕ) (cs : List ℕ) → finish (with_rest (c ∷ cs) o) ≡ None
 left_over None c cs = refl
 left_over (Some x) c cs = cond-false (nat_eq (length (c ∷ cs)) 0) (Some x) None (ne_eqb (length (c ∷ cs)) 0 (λ h. omega (arith, h)))
@@ -83,7 +83,7 @@ named_is {X} name r value token same = by (without_front (name ++ codes "=") tok
 
 -- ---- a text that is cut
 
--- how many bytes stand before the first such byte
+-- how many bytes are before the first such byte
 abbrev to_byte : ℕ → List ℕ → ℕ
 to_byte c text = position_or_len (λ d. d == c) text
 
@@ -167,7 +167,7 @@ pair_by key value = key >>= λ k. value >>= λ v. Some (k, v)
 abbrev pair_end : ℕ → Option (List ℕ) → Option ((ℕ × ℕ) × List ℕ)
 pair_end k o = o >>= λ t. read_u32 t >>= λ v. Some ((k, v.0), v.1)
 
--- a key in front of what is read
+-- a key before what is read
 abbrev with_key : ℕ → Option (ℕ × List ℕ) → Option ((ℕ × ℕ) × List ℕ)
 with_key k o = o >>= λ v. Some ((k, v.0), v.1)
 

@@ -47,7 +47,7 @@ skipped_named name kind is = by (same_list name (codes "frame")) refl (same_list
     by false p false q true r h = inr (inr (same_list-true name (codes "message") r))
     by false p false q false r h = absurd cc
 
--- what stands behind a skipped block in the order of the grammar
+-- what follows a skipped block in the order of the grammar
 abbrev others : ℕ → List ℕ → List (List ℕ) → Option Part
 others m name ts = or_else (read_marker m (name ∷ ts)) (read_threaded m (name ∷ ts))
 
@@ -149,7 +149,7 @@ frame_read token = named_is (codes "frame") read_u64 (number_in (2 ^ 64)) token 
 abbrev marker_event : Bool → ℕ → Event
 marker_event begin frame = event_of (Marker begin frame)
 
--- the first token is read, and these stand behind it
+-- the first token is read, and these follow it
 abbrev first_frame : List (List ℕ) → Option ℕ → Option (ℕ × List (List ℕ))
 first_frame rest o = o >>= λ x. Some (x, rest)
 
@@ -334,7 +334,7 @@ marker_fields m false (t ∷ u ∷ us) other = ap (λ o. o >>= event_block m 2 0
     by None = refl
     by (Some x) = refl
 
--- a thread and a name stand in front of fields
+-- a thread and a name are before fields
 pub threaded_short : (m : ℕ) (ts : List (List ℕ)) → length ts < 2 → read_threaded m ts ≡ None
 unfolding read_threaded
 threaded_short m [] few = refl

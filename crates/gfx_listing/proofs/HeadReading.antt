@@ -1,6 +1,8 @@
 -- The header of a line, as it is appended.
-use Rattle.std.proofs.Common.{◌≡◌, ℕ, suc, ◌+◌, ◌-◌, ◌*◌, ◌<◌, ◌≤◌, ◌^◌, nat_eq, nat_le, ◌&&◌, Bool, true, false, cond, List, [], ◌∷◌, ◌++◌, length, get_or, take, drop, flat_map, Option, Some, None, Result, Err, is_none, refl, sym, ap, subst, ◌∙◌, arith, ◌⊎◌, append-nil, append_assoc, length-append, codes}
+use Rattle.std.proofs.Common.{◌≡◌, ℕ, suc, ◌+◌, ◌-◌, ◌*◌, ◌<◌, ◌≤◌, ◌^◌, nat_eq, nat_le, ◌&&◌, Bool, true, false, cond, List, [], ◌∷◌, ◌++◌, length, get_or, take, drop, flat_map, Option, Some, None, Result, Err, is_none, refl, sym, ap, subst, ◌∙◌, arith, ◌⊎◌, append-nil, append_assoc, length-append, drop_of_length-le, codes}
+use Rattle.std.proofs.Math.Path.{ap₂}
 use Rattle.std.specs.Int.{w32, to_le_bytes}
+use lib.Seq.{paste}
 use Rattle.std.specs.Result.{IsErrAnd}
 use Rattle.std.proofs.lemmas.Bool.{cond-true, cond-false, le-leb, leb-true, eq-eqb, and_parts, and_from, and_left, and_right}
 use Rattle.std.proofs.lemmas.List.{drop_more, drop_all, drop_at, take_at}
@@ -117,7 +119,7 @@ options_end os texts i all so_far =
     ∙ ap (λ (z : List (List ℕ)). each_read (whole read_pair) z >>= λ more. Some (os ++ more)) (drop_all i texts all)
     ∙ ap Some (append-nil os)
 
--- an option is none, or memory was wanted
+-- an option is none, or memory was needed
 pub options_fail : {A : Type 0} (result : Result A LineFault) (fault : LineFault) (os : List (ℕ × ℕ)) (texts : List (List ℕ)) (i : ℕ) (old mid new : List ℕ) → result ≡ Err fault
     → i < length texts → mid ≡ old ++ flat_map option_bytes os → OptionsGoOn os i texts → Refuses fault (whole read_pair (get_or texts i [])) mid new
     → AppendsRead result (each_read (whole read_pair) texts) (flat_map option_bytes) old new
@@ -144,15 +146,15 @@ options_grow os o old mid new grown more =
 -- ---- the header
 
 -- sixteen bytes with another count of options
-pub header_begun : (m count n : ℕ) (old first second new : List ℕ) → first ≡ old ++ header m → n ≡ length first - 4 → second ≡ take n first → new ≡ second ++ to_le_bytes w32 count
-    → new ≡ old ++ start_of m count
-header_begun m count n old first second new begun all cut grown =
+pub header_begun : (m count n : ℕ) (old first : List ℕ) → first ≡ old ++ header m → n ≡ length first - 4 → paste first n (to_le_bytes w32 count) 4 ≡ old ++ start_of m count
+header_begun m count n old first begun all =
     let front = (71 ∷ 70 ∷ 88 ∷ 82 ∷ [] ++ to_le_bytes w32 1000) ++ to_le_bytes w32 m in
     let zero4 = to_le_bytes w32 0 in
     let parts : first ≡ (old ++ front) ++ zero4 = begun ∙ sym (append_assoc old front zero4) in
     let long : length (old ++ front) ≡ n = omega (arith, all, ap length parts, length-append (old ++ front) zero4) in
-    grown
-    ∙ ap (λ (z : List ℕ). z ++ to_le_bytes w32 count) (cut ∙ ap (take n) parts ∙ take_at (old ++ front) zero4 n long)
+    let ends : length first ≤ n + 4 = omega (arith, all) in
+    ap₂ (λ u v. (u ++ to_le_bytes w32 count) ++ v) (ap (take n) parts ∙ take_at (old ++ front) zero4 n long) (drop_of_length-le first {i = n + 4} ends)
+    ∙ append-nil ((old ++ front) ++ to_le_bytes w32 count)
     ∙ append_assoc old front (to_le_bytes w32 count)
 
 -- what is seen of the bytes behind the old ones
@@ -191,7 +193,7 @@ bad_is m os fault bad =
     cond-false (nat_le (length os) max_options && is_header bytes) (Some bytes) None
     (and_right (nat_le (length os) max_options) (is_header bytes) (and_left (is_none (header_fault bytes)) (nat_eq (length bytes) (header_length bytes)) (ap is_none bad)))
 
--- memory was wanted
+-- memory was needed
 pub wants_header : (result : Result ℕ LineFault) (read : Option (List ℕ)) (old new : List ℕ)
     → IsErrAnd result (λ fault. fault ≡ WantMemory) → take (length old) new ≡ old → AppendsHeader result read old new
 wants_header result read old new is stays =

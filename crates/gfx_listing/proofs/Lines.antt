@@ -21,12 +21,12 @@ pub spaced : (word : List ℕ) (words : List (List ℕ)) → join_with_byte 32 (
 spaced word [] = sym (append-nil word)
 spaced word (w ∷ words) = ap (λ (z : List ℕ). word ++ (32 ∷ z)) (spaced w words)
 
--- in a listing no field stands apart
+-- in a listing no field is written apart
 pub all_stand : (fs : List Named) → (with_fields numbered fs nothing).1 ≡ map (field_text decimal) fs
 all_stand [] = refl
 all_stand (f ∷ fs) = ap (λ (z : List (List ℕ)). field_text decimal f ∷ z) (all_stand fs)
 
--- what stands behind the thread
+-- what follows the thread
 abbrev pub fields_behind : ℕ → Event → List ℕ
 fields_behind m e = behind_spaces (with_fields numbered (named_fields m e) nothing).1
 
@@ -84,6 +84,6 @@ meta_grown m t meta old a b c d first space word fields =
     ∙ grown old thread name (fields_behind m (event_of_meta meta))
     ∙ ap (λ (z : List ℕ). old ++ z) (sym (meta_line m t meta))
 
--- the payload is all that stands behind the head
+-- the payload is all that follows the head
 pub whole_payload : (bytes : List ℕ) → length bytes ≡ 12 + size_field bytes → payload_field bytes ≡ drop 12 bytes
 whole_payload bytes long = take_all (size_field bytes) (drop 12 bytes) (omega (arith, long, length-drop 12 bytes))

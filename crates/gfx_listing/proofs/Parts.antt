@@ -1,13 +1,11 @@
 -- The blocks of lines, as they are appended.
-use Rattle.std.proofs.Common.{◌≡◌, ℕ, ◌+◌, ◌-◌, ◌<◌, ◌≤◌, ◌^◌, nat_le, nat_eq, Bool, true, false, cond, List, [], ◌++◌, length, take, drop, Option, Some, None, Result, Ok, Err, refl, sym, ap, subst, ◌∙◌, arith, append-nil, append_assoc, length-append, length-drop, drop-drop}
-use Rattle.std.proofs.Math.Path.{ap₂}
-use borrow.Rule.Slice.PartMut.{put_mid}
+use Rattle.std.proofs.Common.{◌≡◌, ℕ, ◌+◌, ◌-◌, ◌<◌, ◌≤◌, ◌^◌, nat_le, nat_eq, Bool, true, false, cond, List, [], ◌++◌, length, take, drop, Option, Some, None, Result, Ok, Err, refl, sym, ap, subst, ◌∙◌, arith, append-nil, append_assoc, length-append}
 use Rattle.std.specs.Prelude.{OnOk, OnErr}
 use Rattle.std.specs.Result.{IsErrAnd}
 use Rattle.std.specs.Int.{to_le_bytes, w32, w64}
 use Rattle.std.proofs.lemmas.Result.{err_from_is_err_and}
 use Rattle.std.proofs.lemmas.Bool.{cond-false, lt-leb}
-use Rattle.std.proofs.lemmas.List.{take_at, drop_at, length-take-le}
+use Rattle.std.proofs.lemmas.List.{take_at, drop_at}
 use Rattle.gfx_text_writer.proofs.Grown.{front_stays}
 use Rattle.gfx_model.specs.Limits.{max_payload}
 use Rattle.gfx_types.specs.declared.effect.Effect.TheVariants.{Marker}
@@ -35,14 +33,14 @@ use Rattle.gfx_listing.specs.Answers.{fault_of, Refuses, AppendsRead, AppendsPar
 
 -- ---- answers
 
--- what stood before still stands in front
+-- what was before still is first
 pub old_stays : (old more new : List ℕ) → new ≡ old ++ more → take (length old) new ≡ old
 old_stays old more new grown = ap (take (length old)) grown ∙ take_at old more (length old) refl
 
 pub all_stays : (old : List ℕ) → take (length old) old ≡ old
 all_stays old = old_stays old [] old (sym (append-nil old))
 
--- memory was wanted
+-- memory was needed
 pub wants : {A X : Type 0} (result : Result A LineFault) (read : Option X) (bytes : X → List ℕ) (old new : List ℕ)
     → IsErrAnd result (λ fault. fault ≡ WantMemory) → take (length old) new ≡ old → AppendsRead result read bytes old new
 wants {A} {X} result read bytes old new is stays =
@@ -54,7 +52,7 @@ pub along_read : {A X : Type 0} (result : Result A LineFault) (read other : Opti
     → read ≡ other → AppendsRead result other bytes old new → AppendsRead result read bytes old new
 along_read {A} {X} result read other bytes old new same h = subst (λ (o : Option X). AppendsRead result o bytes old new) (sym same) h
 
--- a line whose fields are bad, or for which memory is wanted
+-- a line whose fields are bad, or for which memory is needed
 pub fails : (fault : TextFault) (read : Option Event) (next : Event → Option Part) (old : List ℕ) → Fails fault read
     → Refuses (fault_of fault) (read >>= next) old old
 fails text.Bad read next old none = (ap (λ (o : Option Event). o >>= next) none, all_stays old)
@@ -71,14 +69,14 @@ pub refused : {X : Type 0} (fault : LineFault) (read : Option X) (old new : List
 refused BadLine read old new h is = h.0
 refused WantMemory read old new h is = absurd cc
 
--- after a fault the old bytes stand in front
+-- after a fault the old bytes are first
 pub fault_stays : {X : Type 0} (fault : LineFault) (read : Option X) (old new : List ℕ) → Refuses fault read old new → take (length old) new ≡ old
 fault_stays BadLine read old new h = h.1
 fault_stays WantMemory read old new h = h
 
 -- ---- the end of a block
 
--- the head of a block stands behind the old bytes
+-- the head of a block follows the old bytes
 pub head_there : (kind start : ℕ) (load old mid : List ℕ) → start ≡ length old → mid ≡ old ++ to_le_bytes w64 0 ++ to_le_bytes w32 kind ++ load → start + 12 ≤ length mid
 head_there kind start load old mid from grown =
     let parts = ap length (grown ∙ append_assoc (old ++ to_le_bytes w64 0) (to_le_bytes w32 kind) load) in
@@ -149,7 +147,7 @@ spelled m kind name left e is =
 
 -- ---- skipped blocks
 
--- the bytes stand behind what a message has in front
+-- the bytes follow what a message has first
 pub payload-bytes : (kind : ℕ) (bytes : List ℕ) → skipped_payload kind [] ++ bytes ≡ skipped_payload kind bytes
 payload-bytes kind bytes = by (nat_eq kind 3)
   where
@@ -157,25 +155,12 @@ payload-bytes kind bytes = by (nat_eq kind 3)
     by true = append_assoc (to_le_bytes w32 1) [] bytes
     by false = refl
 
--- the size, written into the place of the 0
-pub resized : (mid held size : List ℕ) (a k n number : ℕ) (behind : List ℕ) → held ≡ mid → a + 12 ≤ length mid → k ≡ 8 → n ≡ length mid → size ≡ to_le_bytes w64 number
-    → take n (put_mid a k held size ++ behind) ≡ take a mid ++ to_le_bytes w64 number ++ drop (a + 8) mid
-resized mid held size a k n number behind same there eight all is =
-    let le = to_le_bytes w64 number in
-    let made : put_mid a k held size ≡ take a mid ++ (le ++ drop (a + 8) mid) =
-    ap₂ (λ u v. u ++ v) (ap (take a) same) (ap₂ (λ u v. u ++ v) is (ap₂ (λ j l. drop j (drop a l)) eight same ∙ drop-drop 8 a mid)) in
-    let long : length (take a mid ++ (le ++ drop (a + 8) mid)) ≡ n =
-    length-append (take a mid) (le ++ drop (a + 8) mid)
-    ∙ ap₂ (λ u v. u + v) (length-take-le a mid (omega (arith, there))) (length-append le (drop (a + 8) mid) ∙ ap (λ u. 8 + u) (length-drop (a + 8) mid))
-    ∙ omega (arith, there, all) in
-    ap (λ (z : List ℕ). take n (z ++ behind)) made ∙ take_at (take a mid ++ (le ++ drop (a + 8) mid)) behind n long ∙ sym (append_assoc (take a mid) le (drop (a + 8) mid))
-
 -- ---- skipped blocks, from their digits
 
 abbrev skipped_read : ℕ → List ℕ → Option Part
 skipped_read kind digits = raw_in digits >>= λ bytes. block_of kind (skipped_payload kind bytes) skipped
 
--- what stands there before the bytes of a skipped block
+-- what is there before the bytes of a skipped block
 abbrev begun : ℕ → List ℕ → List ℕ
 begun kind old = old ++ to_le_bytes w64 0 ++ to_le_bytes w32 kind ++ skipped_payload kind []
 
@@ -184,7 +169,7 @@ begun_parts kind old =
     append_assoc (old ++ to_le_bytes w64 0) (to_le_bytes w32 kind) (skipped_payload kind [])
     ∙ append_assoc old (to_le_bytes w64 0) (to_le_bytes w32 kind ++ skipped_payload kind [])
 
--- the digits are no bytes, or memory was wanted
+-- the digits are no bytes, or memory was needed
 pub skipped_breaks : {A : Type 0} (kind : ℕ) (digits old mid new : List ℕ) (result : Result A LineFault) (fault : LineFault) → result ≡ Err fault → mid ≡ begun kind old
     → Refuses fault (raw_in digits) mid new → AppendsPart result (skipped_read kind digits) old new
 skipped_breaks {A} kind digits old mid new result fault is grown h =
@@ -197,7 +182,7 @@ skipped_breaks {A} kind digits old mid new result fault is grown h =
     by BadLine k = (ap (λ (o : Option (List ℕ)). o >>= λ bytes. block_of kind (skipped_payload kind bytes) skipped) k.0, stays k.1)
     by WantMemory k = stays k
 
--- the bytes stand there, and the block is ended
+-- the bytes are there, and the block is ended
 pub skipped_ends : {A : Type 0} (kind start : ℕ) (digits : List ℕ) (result : Result A LineFault) (old front mid new : List ℕ) → start ≡ length old → front ≡ begun kind old
     → (bytes : List ℕ) × (raw_in digits ≡ Some bytes) × (mid ≡ front ++ bytes)
     → OnOk result (length mid ≤ start + 12 + max_payload)
@@ -222,7 +207,7 @@ pub event_written : (m t kind id : ℕ) (e : Event) (old front mid : List ℕ) �
 event_written m t kind id e old front mid type other number grown more =
     threaded m t kind id e old front mid type other number grown more ∙ ap (λ k. old ++ to_le_bytes w64 0 ++ to_le_bytes w32 k ++ payload m t e) type
 
--- the fields of a call or a metadata stand there, and the block is ended
+-- the fields of a call or a metadata are there, and the block is ended
 pub event_ends : {A : Type 0} (m t kind id start : ℕ) (e : Event) (result : Result A LineFault) (old front mid new : List ℕ) → type_of e ≡ kind → nat_eq kind 2 ≡ false → id ≡ id_of e
     → start ≡ length old → front ≡ old ++ to_le_bytes w64 0 ++ to_le_bytes w32 kind ++ to_le_bytes w32 id ++ to_le_bytes w64 t → mid ≡ front ++ spelling m e
     → OnOk result (length mid ≤ start + 12 + max_payload)
@@ -233,7 +218,7 @@ event_ends m t kind id start e result old front mid new type other number from g
     ended kind start (payload m t e) (effect t e) result old mid new from
     (event_written m t kind id e old front mid type other number grown more) small sized large same
 
--- what stands before the fields stands behind the old bytes
+-- what is before the fields follows the old bytes
 pub effect_begun : (kind id t : ℕ) (old front new : List ℕ) → front ≡ old ++ to_le_bytes w64 0 ++ to_le_bytes w32 kind ++ to_le_bytes w32 id ++ to_le_bytes w64 t → new ≡ front
     → take (length old) new ≡ old
 effect_begun kind id t old front new grown same =

@@ -12,7 +12,7 @@ abbrev pub fault_of : TextFault → LineFault
 fault_of text.Bad = BadLine
 fault_of text.WantMemory = WantMemory
 
--- a bad line is one of which nothing is read, and the old bytes still stand in front
+-- a bad line is one of which nothing is read, and the old bytes still are first
 abbrev pub Refuses : {X : Type 0} → LineFault → Option X → (old new : List ℕ) → Type 0
 Refuses BadLine read old new = (read ≡ None) × (take (length old) new ≡ old)
 Refuses WantMemory read old new = take (length old) new ≡ old

@@ -34,7 +34,7 @@ part_of_tokens m tokens = or_else (read_skipped tokens) (or_else (read_marker m 
 abbrev pub start_of : (minor count : ℕ) → List ℕ
 start_of m n = to_le_bytes w32 0x52584647 ++ (to_le_bytes w32 1000 ++ (to_le_bytes w32 m ++ to_le_bytes w32 n))
 
--- the number below this limit that stands in decimal behind a front
+-- the number below this limit that is in decimal after a prefix
 abbrev pub number_after : ℕ → (front text : List ℕ) → Option ℕ
 number_after limit front text = without_front front text >>= number_in limit
 

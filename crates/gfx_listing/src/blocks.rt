@@ -16,7 +16,7 @@ use crate::tokens::tokens;
 use gfx_decode::Raw;
 use gfx_types::{Block, WantMemory};
 
-/// Appends the line of a block of a file in this minor version, without its line feed. After want of memory `out` is as
+/// Appends the line of a block of a file in this minor version, without its line feed. When out of memory `out` is as
 /// it was.
 pub fn put_line(minor: u32, raw: &Raw<'_>, out: &mut Vec<u8>) -> Result<(), WantMemory>
     requires { IsBlock minor raw.now.bytes.now (content_of raw.now.block) }
@@ -47,7 +47,7 @@ pub fn read_line(minor: u32, line: &[u8], out: &mut Vec<u8>) -> Result<(), LineF
     }
 }
 
-/// The same, but after a fault some of the block may stand behind the old bytes.
+/// Appends the block of a line. After a fault a part of the block may follow the old bytes.
 fn append_block(minor: u32, line: &[u8], out: &mut Vec<u8>) -> Result<(), LineFault>
     requires { (minor ≡ 1) ⊎ (minor ≡ 2) }
     ensures { AppendsPart result (lines.read_line minor line.now) out.old.items out.new.items }

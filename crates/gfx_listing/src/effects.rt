@@ -9,7 +9,7 @@ use gfx_text_writer::{put_number, show_call, show_meta};
 use gfx_types::{Call, Effect, Meta, WantMemory};
 use std::alloc::AllocError;
 
-/// Appends the line of an effect under this thread, without its line feed. After want of memory `out` is as it was.
+/// Appends the line of an effect under this thread, without its line feed. When out of memory `out` is as it was.
 pub(crate) fn put_effect(
     minor: u32,
     thread: u64,
@@ -29,7 +29,7 @@ pub(crate) fn put_effect(
     }
 }
 
-/// The same, but after want of memory some of the line may stand behind the old text.
+/// Appends the line of an effect. When out of memory a part of the line may follow the old text.
 #[tactic(auto, unfolding(gfx_script_model::specs::EventNames::event_name, gfx_model::specs::Spelling::type_of))]
 fn write_effect(
     minor: u32,

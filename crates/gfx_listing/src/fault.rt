@@ -4,14 +4,11 @@ ghost use Rattle.gfx_listing.specs.declared.fault.LineFault.TheVariants.{WantMem
 
 use gfx_text::TextFault;
 use std::alloc::{AllocError, AllocFailed};
-use thiserror::Error;
 
-/// Why nothing is read of a line: no header or no block has it, or there is no memory for what it says.
-#[derive(Clone, Copy, Debug, PartialEq, Eq, Error)]
+/// No header or no block has the line, or memory ran out for what it says.
+#[derive(Clone, Copy, Debug, PartialEq, Eq)]
 pub enum LineFault {
-    #[error("bad line")]
     BadLine,
-    #[error("out of memory")]
     WantMemory,
 }
 
@@ -35,6 +32,14 @@ impl From<gfx_types::WantMemory> for LineFault {
     ghost from_gives = { λ _ fault. fault ≡ WantMemory };
 
     fn from(_: gfx_types::WantMemory) -> Self {
+        LineFault::WantMemory
+    }
+}
+
+impl From<gfx_io::WantMemory> for LineFault {
+    ghost from_gives = { λ _ fault. fault ≡ WantMemory };
+
+    fn from(_: gfx_io::WantMemory) -> Self {
         LineFault::WantMemory
     }
 }

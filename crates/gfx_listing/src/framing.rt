@@ -4,17 +4,17 @@ ghost use Rattle.std.specs.Int.{to_le_bytes, w32, w64};
 ghost use Rattle.gfx_model.specs.Limits.{max_payload};
 
 use crate::fault::LineFault;
+use gfx_io::{WantMemory, put_u32, put_u64, set_u64};
 use gfx_types::limits::MAX_PAYLOAD;
-use std::alloc::AllocError;
 
-/// Appends 0 for the size of a block's payload, and the block's type. After want of memory some of it may stand behind
+/// Appends 0 for the size of a block's payload, and the block's type. When out of memory some of it may follow
 /// the old bytes.
-pub(crate) fn begin_block(kind: u32, out: &mut Vec<u8>) -> Result<(), AllocError>
+pub(crate) fn begin_block(kind: u32, out: &mut Vec<u8>) -> Result<(), WantMemory>
     ensures ok { OnOk result (out.new.items ≡ out.old.items ++ (to_le_bytes w64 0 ++ to_le_bytes w32 kind)) }
     ensures err { OnErr result (take (length out.old.items) out.new.items ≡ out.old.items) }
 {
-    out.extend_from_slice(&0u64.to_le_bytes())?;
-    out.extend_from_slice(&kind.to_le_bytes())
+    put_u64(out, 0)?;
+    put_u32(out, kind)
 }
 
 /// Writes the size of the payload into the block that begins at `start` and ends with the bytes. BadLine where the
@@ -32,6 +32,6 @@ pub(crate) fn end_block(start: usize, out: &mut Vec<u8>) -> Result<(), LineFault
     if MAX_PAYLOAD < size {
         return Err(LineFault::BadLine);
     }
-    out[start..start + 8].copy_from_slice(&size.to_le_bytes());
+    set_u64(out, start, size);
     Ok(())
 }

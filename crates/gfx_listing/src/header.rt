@@ -15,6 +15,7 @@ use crate::number::u32_at;
 use crate::tokens::tokens;
 use crate::words::{cut, is_word, short_behind, short_number_of};
 use gfx_blocks::{put_header, read_header};
+use gfx_io::{put_u32, set_u32};
 use gfx_text_writer::put_number;
 use gfx_types::WantMemory;
 use std::alloc::AllocError;
@@ -30,7 +31,7 @@ const OPTIONS: usize = 16;
 
 const OPTION_LENGTH: usize = 8;
 
-/// Appends the line of a header, without its line feed. After want of memory `out` is as it was.
+/// Appends the line of a header, without its line feed. When out of memory `out` is as it was.
 pub fn put_head(header: &[u8], out: &mut Vec<u8>) -> Result<(), WantMemory>
     requires { IsHeader header.now }
     ensures ok { OnOk result (out.new.items ≡ out.old.items ++ header_text header.now) }
@@ -46,7 +47,7 @@ pub fn put_head(header: &[u8], out: &mut Vec<u8>) -> Result<(), WantMemory>
     }
 }
 
-/// The same, but after want of memory some of the line may stand behind the old text.
+/// Appends the line of a header. When out of memory some of it may follow the old text.
 fn write_head(header: &[u8], out: &mut Vec<u8>) -> Result<(), AllocError>
     requires { IsHeader header.now }
     ensures ok { OnOk result (out.new.items ≡ out.old.items ++ header_text header.now) }
@@ -100,7 +101,7 @@ pub fn read_head(line: &[u8], out: &mut Vec<u8>) -> Result<u32, LineFault>
     }
 }
 
-/// The same, but after a fault some of the header may stand behind the old bytes.
+/// Appends the header that has this line. After a fault some of it may follow the old bytes.
 fn append_header(line: &[u8], out: &mut Vec<u8>) -> Result<u32, LineFault>
     ensures { AppendsHeader result (read_header line.now) out.old.items out.new.items }
 {
@@ -147,8 +148,9 @@ fn begin_header(minor: u32, count: u32, out: &mut Vec<u8>) -> Result<(), WantMem
     ensures err { OnErr result (take (length out.old.items) out.new.items ≡ out.old.items) }
 {
     put_header(minor, out)?;
-    out.truncate(out.len() - COUNT_LENGTH);
-    Ok(out.extend_from_slice(&count.to_le_bytes())?)
+    let place = out.len() - COUNT_LENGTH;
+    set_u32(out, place, count);
+    Ok(())
 }
 
 /// Appends the keys and values of options.
@@ -168,8 +170,8 @@ fn append_option(text: &[u8], out: &mut Vec<u8>) -> Result<(), LineFault>
     let Some((key, value)) = option_of(text) else {
         return Err(LineFault::BadLine);
     };
-    out.extend_from_slice(&key.to_le_bytes())?;
-    out.extend_from_slice(&value.to_le_bytes())?;
+    put_u32(out, key)?;
+    put_u32(out, value)?;
     Ok(())
 }
 

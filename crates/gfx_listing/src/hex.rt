@@ -5,7 +5,7 @@ ghost use Rattle.gfx_listing.specs.Answers.{AppendsRead};
 use crate::fault::LineFault;
 use gfx_text::byte_of;
 
-/// Appends the bytes of hexadecimal digits in lower case, two for each byte. After a fault some of them may stand behind
+/// Appends the bytes of hexadecimal digits in lower case, two for each byte. After a fault some of them may follow
 /// the old bytes.
 pub(crate) fn append_bytes(digits: &[u8], out: &mut Vec<u8>) -> Result<(), LineFault>
     ensures { AppendsRead result (raw_in digits.now) (λ bytes. bytes) out.old.items out.new.items }

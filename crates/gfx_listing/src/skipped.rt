@@ -12,6 +12,7 @@ use crate::framing::{begin_block, end_block};
 use crate::hex::append_bytes;
 use crate::number::u32_at;
 use crate::words::{is_word, without_front};
+use gfx_io::put_u32;
 use gfx_text_writer::put_bytes;
 use gfx_types::WantMemory;
 use std::alloc::AllocError;
@@ -22,7 +23,7 @@ const HEAD: usize = 12;
 
 const MESSAGE: u32 = 3;
 
-/// Appends the line of a block that is skipped, without its line feed. After want of memory `out` is as it was.
+/// Appends the line of a block that is skipped, without its line feed. When out of memory `out` is as it was.
 #[tactic(auto, using(crate::proofs::Lines::whole_payload))]
 pub(crate) fn put_skipped(bytes: &[u8], out: &mut Vec<u8>) -> Result<(), WantMemory>
     requires { length bytes.now ≡ 12 + size_field bytes.now }
@@ -39,7 +40,7 @@ pub(crate) fn put_skipped(bytes: &[u8], out: &mut Vec<u8>) -> Result<(), WantMem
     }
 }
 
-/// The same by the type and the payload, but after want of memory some of the line may stand behind the old text.
+/// Appends the line of a block by its type and its payload. When out of memory some of the line may follow the old text.
 fn write_skipped(kind: u32, payload: &[u8], out: &mut Vec<u8>) -> Result<(), AllocError>
     ensures ok { OnOk result (out.new.items ≡ out.old.items ++ listing.skipped_text kind payload.now) }
     ensures err { OnErr result (take (length out.old.items) out.new.items ≡ out.old.items) }
@@ -59,7 +60,7 @@ fn skipped_name(kind: u32) -> &'static str
     }
 }
 
-/// The bytes of a block: those of a message stand behind its id.
+/// The bytes of a block: those of a message follow its id.
 fn skipped_bytes(kind: u32, payload: &[u8]) -> &[u8]
     ensures { result.now ≡ listing.skipped_bytes kind payload.now }
 {
@@ -112,7 +113,7 @@ fn append_skipped(kind: u32, digits: &[u8], out: &mut Vec<u8>) -> Result<(), Lin
 }
 
 /// Appends 0 for the size of a payload, the type of a skipped block, and the id of a message.
-fn begin_skipped(kind: u32, out: &mut Vec<u8>) -> Result<(), AllocError>
+fn begin_skipped(kind: u32, out: &mut Vec<u8>) -> Result<(), gfx_io::WantMemory>
     ensures ok { OnOk result (out.new.items ≡ out.old.items ++ to_le_bytes w64 0 ++ to_le_bytes w32 kind ++ lines.skipped_payload kind []) }
     ensures err { OnErr result (take (length out.old.items) out.new.items ≡ out.old.items) }
 {
@@ -120,5 +121,5 @@ fn begin_skipped(kind: u32, out: &mut Vec<u8>) -> Result<(), AllocError>
     if kind != MESSAGE {
         return Ok(());
     }
-    out.extend_from_slice(&1u32.to_le_bytes())
+    put_u32(out, 1)
 }

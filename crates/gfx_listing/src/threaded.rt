@@ -11,10 +11,10 @@ ghost use Rattle.gfx_listing.specs.Lines.{named_block};
 use crate::fault::LineFault;
 use crate::framing::{begin_block, end_block};
 use crate::words::{number_behind, without_front};
+use gfx_io::{WantMemory, put_u32, put_u64};
 use gfx_params::{call_id, encode, encode_meta, meta_id};
 use gfx_text::{Left, Numbered, read_call, read_meta};
 use gfx_types::{Call, Meta};
-use std::alloc::AllocError;
 
 const META: u32 = 3;
 
@@ -114,12 +114,12 @@ fn put_meta(thread: u64, meta: &Meta<'_>, out: &mut Vec<u8>) -> Result<(), LineF
 }
 
 /// Appends 0 for the size of a payload, a block's type, its id and its thread.
-fn begin_effect(kind: u32, id: u32, thread: u64, out: &mut Vec<u8>) -> Result<(), AllocError>
+fn begin_effect(kind: u32, id: u32, thread: u64, out: &mut Vec<u8>) -> Result<(), WantMemory>
     ensures ok { OnOk result (out.new.items ≡ out.old.items ++ to_le_bytes w64 0
         ++ to_le_bytes w32 kind ++ to_le_bytes w32 id ++ to_le_bytes w64 thread) }
     ensures err { OnErr result (take (length out.old.items) out.new.items ≡ out.old.items) }
 {
     begin_block(kind, out)?;
-    out.extend_from_slice(&id.to_le_bytes())?;
-    out.extend_from_slice(&thread.to_le_bytes())
+    put_u32(out, id)?;
+    put_u64(out, thread)
 }

@@ -26,7 +26,7 @@ pub(crate) fn tokens<'t>(alloc: Global, line: &'t [u8]) -> Result<Option<Vec<&'t
     Ok(None)
 }
 
-/// The first token of a line, and what stands behind its space, where there is one.
+/// The first token of a line, and what follows its space, where there is one.
 fn first_token(line: &[u8]) -> (&[u8], Option<&[u8]>)
     ensures { MatchOption result.1 (tokens_of line.now ≡ result.0.now ∷ [])
         (λ behind. tokens_of line.now ≡ result.0.now ∷ tokens_of behind.now) }

@@ -1,4 +1,4 @@
-//! Parts of a text: what stands at its front, and numbers in decimal.
+//! Parts of a text: what is at its front, and numbers in decimal.
 ghost use Rattle.std.specs.Prelude.{◌≡◌, ◌==◌, ◌^◌, ◌++◌, ◌∷◌, true, position, MatchOption};
 ghost use Rattle.gfx_model.specs.Checks.{same_list};
 ghost use Rattle.gfx_text_grammar.specs.FieldReading.{without_front};
@@ -15,7 +15,7 @@ pub(crate) fn is_word(token: &[u8], word: &[u8]) -> bool
     token == word
 }
 
-/// What stands before the first such byte of a text, and behind it. None where there is no such byte.
+/// What is before the first such byte of a text, and behind it. None where there is no such byte.
 pub(crate) fn cut(byte: u8, text: &[u8]) -> Option<(&[u8], &[u8])>
     ensures { MatchOption result (is_without byte text.now ≡ true)
         (λ parts. (is_without byte parts.0.now ≡ true) × (text.now ≡ parts.0.now ++ byte ∷ parts.1.now)) }
@@ -37,14 +37,14 @@ fn place_of(byte: u8, text: &[u8]) -> Option<usize>
     text.iter().position(|c| *c == byte)
 }
 
-/// The text behind this front.
+/// The text after this prefix.
 pub(crate) fn without_front<'t>(front: &[u8], text: &'t [u8]) -> Option<&'t [u8]>
     ensures { MatchOption result (without_front front.now text.now ≡ None) (λ rest. without_front front.now text.now ≡ Some rest.now) }
 {
     text.strip_prefix(front)
 }
 
-/// The number in decimal that stands behind this front.
+/// The number in decimal that follows this prefix.
 pub(crate) fn number_behind(front: &[u8], text: &[u8]) -> Option<u64>
     ensures { result ≡ number_after (2 ^ 64) front.now text.now }
 {
@@ -54,7 +54,7 @@ pub(crate) fn number_behind(front: &[u8], text: &[u8]) -> Option<u64>
     }
 }
 
-/// The number below 2^32 in decimal that stands behind this front.
+/// The number below 2^32 in decimal that follows this prefix.
 pub(crate) fn short_behind(front: &[u8], text: &[u8]) -> Option<u32>
     ensures { result ≡ number_after (2 ^ 32) front.now text.now }
 {

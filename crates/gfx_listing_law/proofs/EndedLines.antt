@@ -11,7 +11,7 @@ ended-byte : (c : ℕ) (cs : List ℕ) → nat_eq c 10 ≡ false → ended_lines
 unfolding ended_lines
 ended-byte c cs other = cond-false _ _ _ other
 
--- a whole line in front
+-- a whole line before it
 pub ended-line : (l rest : List ℕ) → is_without 10 l ≡ true → ended_lines (line l ++ rest) ≡ l ∷ ended_lines rest
 unfolding ended_lines
 ended-line [] rest none = refl
@@ -20,7 +20,7 @@ ended-line (c ∷ l) rest none =
     let other : nat_eq c 10 ≡ false = not-true _ parts.0 in
     cond-false _ _ _ other ∙ ap (onto_first c) (ended-line l rest parts.1)
 
--- whole lines in front
+-- whole lines before it
 pub ended-lines : (ls : List (List ℕ)) (rest : List ℕ) → AllByRecursion (λ l. is_without 10 l ≡ true) ls → ended_lines (flat_map line ls ++ rest) ≡ ls ++ ended_lines rest
 ended-lines [] rest all = refl
 ended-lines (l ∷ ls) rest all =
@@ -49,7 +49,7 @@ long-zero : (ls : List (List ℕ)) → BeginsLong 0 ls
 long-zero [] = tt
 long-zero (l ∷ ls) = omega arith
 
--- so many bytes without a line feed in front
+-- so many bytes without a line feed first
 pub ended-long : (next more : List ℕ) → is_without 10 next ≡ true → BeginsLong (length next) (ended_lines (next ++ more))
 unfolding ended_lines
 ended-long [] more none = long-zero (ended_lines more)

@@ -80,7 +80,7 @@ last_short lines l is =
     last [] all = all.0
     last (k ∷ ls) all = last ls all.1
 
--- first lines of a listing are one, and what they list is a front
+-- first lines of a listing are one, and what they list is a prefix
 front_read : (lines more : List (List ℕ)) → is_some (read_lines (lines ++ more)) ≡ true → AreRead lines × ((rest : List ℕ) × (bytes_in (lines ++ more) ≡ bytes_in lines ++ rest))
 unfolding read_lines
 front_read [] more is = (inl refl, (bytes_in more, refl))
@@ -116,7 +116,7 @@ readable-through front (l ∷ ls) more (inl is) =
     some_front lines more (inl none) some = absurd (some none)
     some_front lines more (inr is) some = is
 
--- what lines list is a front of what is read behind them
+-- what lines list is a prefix of what is read behind them
 readable_front : (lines more : List (List ℕ)) → (rest : List ℕ) × (bytes_in (readable lines more) ≡ bytes_in lines ++ rest)
 unfolding readable
 readable_front lines [] = ([], sym (append-nil (bytes_in lines)))

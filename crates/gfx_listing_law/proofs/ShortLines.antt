@@ -207,7 +207,7 @@ unfolding event_name
 name-small (Event.CreateInstance instance api) = omega arith
 name-small _ = omega arith
 
--- the words in front of the fields
+-- the words before the fields
 front-short : (kind t : ℕ) (e : Event) → t < 2 ^ 64 → separated (event_words kind t e) ≤ 70
 front-short kind t e small = by (nat_eq kind 2) (nat_eq kind 4)
   where

@@ -45,7 +45,7 @@ pub record IsBadAtLine (number : ℕ) (text : List ℕ) : Type 0 where
 
 -- ---- what a text lists, as far as it is a listing
 
--- a byte more in front of the first of these lines, where there is one
+-- a byte more before the first of these lines, where there is one
 abbrev pub onto_first : ℕ → List (List ℕ) → List (List ℕ)
 onto_first c [] = []
 onto_first c (l ∷ ls) = (c ∷ l) ∷ ls

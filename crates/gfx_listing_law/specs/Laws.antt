@@ -13,7 +13,7 @@ abbrev pub LinesAreShort : Type 0
 LinesAreShort = ((text bytes : List ℕ) → read_header text ≡ Some bytes → length text < max_line_bytes)
     × ((m : ℕ) (text : List ℕ) (p : Part) → read_line m text ≡ Some p → length text < max_line_bytes)
 
--- what first lines of a text list is a front of what the text lists
+-- what first lines of a text list is a prefix of what the text lists
 abbrev pub FrontsAreUnlisted : Type 0
 FrontsAreUnlisted = (lines : List (List ℕ)) (rest text : List ℕ) → BeginsWith lines rest text
     → (more : List ℕ) × (unlisted text ≡ bytes_in lines ++ more)

@@ -8,7 +8,7 @@ pub fn lines_are_short()
     ensures { LinesAreShort }
 {}
 
-/// What first lines of a text list is a front of what the text lists.
+/// What first lines of a text list is a prefix of what the text lists.
 pub fn fronts_are_unlisted()
     ensures { FrontsAreUnlisted }
 {}

@@ -84,7 +84,7 @@ fn markers_and_skipped_blocks_are_read_and_written(rt: HostRuntime) -> Result<()
     Ok(())
 }
 
-/// The line is bad in a file with this header, and leaves what stood there.
+/// The line is bad in a file with this header, and leaves what was there.
 fn is_bad(alloc: Global, head: &str, line: &str) -> Result<bool, LineFault> {
     let mut bytes = Vec::new(alloc);
     let minor = read_head(head.as_bytes(), &mut bytes)?;

@@ -32,7 +32,7 @@ fn append(
     }
 }
 
-/// The same of a call, which is let go of here alone.
+/// Appends a call, which is dropped here alone.
 fn append_call(
     log: &mut Log,
     buffer: &mut ThreadBuffer,

@@ -48,7 +48,7 @@ recording i =
 abbrev pub objects : List Event
 objects = device ++ images ++ memory ++ buffers ++ signals
 
--- all that stands before the first frame
+-- all that is before the first frame
 unfoldable pub setup : List Event
 setup = objects ++ recording 0 ++ recording 1
 

@@ -1,4 +1,4 @@
-//! What stands before the first frame.
+//! What is before the first frame.
 ghost use Rattle.std.specs.Prelude.{◌≡◌, ◌<◌, ◌++◌, IfOk, OnOk};
 ghost use Rattle.gfx_model.specs.Events.{event_of};
 ghost use Rattle.gfx_make.specs.Made as made;

@@ -170,7 +170,7 @@ record Grown (h now : List Event) : Type 0 where
 grown_same : (h : List Event) → Grown h h
 grown_same h = record { more = []; shows = sym (append-nil (frames h)); later = tt }
 
--- one event more at the front
+-- one event more at the start
 grown_event : (e : Event) (h now : List Event) → is_empty_list (steps h) ≡ false → fault h e ≡ None → Grown (e ∷ h) now → Grown h now
 unfolding frames
 grown_event (BeginSection frame) h now some ok g = absurd (no_late_section h frame some ok)

@@ -116,7 +116,7 @@ ex_numbers : map (λ f. f.number) (frames (onto f3 [])) ≡ 1 ∷ 2 ∷ 3 ∷ []
 unfolding all
 ex_numbers = refl
 
--- the 27 blocks of the trimmed file: 23 of the section, and the four of frame 2 as they stand
+-- the 27 blocks of the trimmed file: 23 of the section, and the four of frame 2 unchanged
 ex_trim_blocks : length (section (after 22) 2 ++ frame2) ≡ 27
 unfolding all
 ex_trim_blocks = refl
@@ -171,7 +171,7 @@ ex_span = refl
 lead : Whole
 lead = record { number = 1; offset = 16; bytes = block_bytes 1 (7 ∷ []); content = skipped }
 
--- it stands in frame 1 of a file without a section, and before a begin marker it stands in no frame
+-- it is in frame 1 of a file without a section, and before a begin marker it is in no frame
 ex_lead : length (trimmed_by 1 1 1 (boundary 1 (lead ∷ wholes 1 2 29 f1))) ≡ 1192
 unfolding all lead
 ex_lead = refl

@@ -73,7 +73,7 @@ pub data Check : Type 0 where
   live : (k : Kind) (x : ℕ) → Check
   -- 13 unless the parent of x is p; 13 unless x and p belong to one device
   of near : (x p : ℕ) → Check
-  -- 15 if x is 0; 12 if it was used before, or stands earlier in this call
+  -- 15 if x is 0; 12 if it was used before, or is earlier in this call
   new : (earlier : List ℕ) (x : ℕ) → Check
   -- 28 if n more objects would be too many; 28 if n more bytes would be
   room room_for : (n : ℕ) → Check
@@ -144,11 +144,11 @@ abbrev pub first : Option Fault → Option Fault → Option Fault
 first (Some f) g = Some f
 first None g = g
 
--- x stands in the list
+-- x is in the list
 abbrev pub is_among : ℕ → List ℕ → Bool
 is_among x xs = list_any (λ y. y == x) xs
 
--- no number stands twice
+-- no number occurs twice
 abbrev pub is_distinct : List ℕ → Bool
 is_distinct [] = true
 is_distinct (x ∷ xs) = not (is_among x xs) && is_distinct xs
@@ -179,7 +179,7 @@ abbrev pub is_initial : State → Bool
 is_initial State.initial = true
 is_initial _ = false
 
--- 15 if x is 0; 12 if x was used before, or stands earlier in this call
+-- 15 if x is 0; 12 if x was used before, or is earlier in this call
 abbrev pub new_fault : View → List ℕ → ℕ → Option Fault
 new_fault v earlier x =
     first (unless (not (x == 0)) BadValue) (unless (not (v.used x) && not (is_among x earlier)) IdTaken)

@@ -35,7 +35,7 @@ inside_of w f = option_map_or f w []
 abbrev pub inside_both : Option Window → Option Window → (Window → Window → List Change) → List Change
 inside_both s t f = inside_of s (λ a. inside_of t (f a))
 
--- where a texel stands in the window of an image
+-- where a texel is in the window of an image
 abbrev pub texel_at : View → ℕ → ℕ → ℕ → ℕ
 texel_at v image x y = (y * width_of v image + x) * texel v image
 

@@ -143,7 +143,7 @@ object_events s x parent a_command_buffer = []
 abbrev pub group : Known → Kind → List Event
 group s k = flat_map (λ x. option_map_or (λ o. object_events s x o.parent o.detail) (s.answers.live x) []) (live_ids s.answers k)
 
--- the kinds in the order of the section; an image of a swapchain and a command buffer stand with their parents
+-- the kinds in the order of the section; an image of a swapchain and a command buffer are with their parents
 abbrev pub section_order : List Kind
 section_order = kind.Instance ∷ kind.Surface ∷ kind.Device ∷ kind.Queue ∷ kind.Memory ∷ kind.Buffer ∷ kind.Image
     ∷ kind.Swapchain ∷ kind.Fence ∷ kind.Semaphore ∷ kind.Pool ∷ []

@@ -58,7 +58,7 @@ abbrev pub new_each : List ℕ → List ℕ → List Check
 new_each earlier [] = []
 new_each earlier (x ∷ xs) = new earlier x ∷ new_each (x ∷ earlier) xs
 
--- 11 too for one that stands twice
+-- 11 too for one that occurs twice
 abbrev pub live_once : Kind → List ℕ → List ℕ → List Check
 live_once k earlier [] = []
 live_once k earlier (x ∷ xs) = live k x ∷ must NotLive (not (is_among x earlier)) ∷ live_once k (x ∷ earlier) xs
@@ -141,13 +141,13 @@ acquire_answer swapchain index answer =
     if answer == 1 then value (index == 0) ∷ all_acquired swapchain ∷ []
     else index_in swapchain index ∷ not_acquired swapchain index ∷ []
 
--- the calls that may stand in the state section
+-- the calls that may occur in the state section
 abbrev pub stands_in_section : ℕ → Bool
 stands_in_section n = is_among n (
     1 ∷ 3 ∷ 5 ∷ 7 ∷ 8 ∷ 10 ∷ 12 ∷ 14 ∷ 15 ∷ 17 ∷ 18 ∷ 21 ∷ 23 ∷ 24
     ∷ 26 ∷ 27 ∷ 28 ∷ 29 ∷ 30 ∷ 31 ∷ 32 ∷ 33 ∷ 34 ∷ 39 ∷ 44 ∷ 46 ∷ [])
 
--- where an event may stand: other calls outside the section, metadata 3 to 5 inside
+-- where an event may occur: other calls outside the section, metadata 3 to 5 inside
 unfoldable pub place_of : Event → List Check
 place_of (Event.InitImage _ _ _) = inside ∷ []
 place_of (Event.SetSwapchainState _ _) = inside ∷ []
@@ -199,7 +199,7 @@ command_checks (Event.CmdClearColorImage cb image layout c0 c1 c2 c3) =
     res kind.Image cb image ++ dst image ∷ value (is_among layout (7 ∷ 1 ∷ [])) ∷ uint_format image ∷ []
 command_checks _ = []
 
--- the checks of an event's row; a command's own stand between those of its buffer
+-- the checks of an event's row; a command's own are between those of its buffer
 unfoldable pub row_of : Event → List Check
 row_of (Event.CreateInstance instance api) = new [] instance ∷ room 1 ∷ []
 row_of (Event.DestroyInstance instance) = live kind.Instance instance ∷ childless instance ∷ []

@@ -25,7 +25,7 @@ abbrev pub cuts_before : ℕ → List Event → Content → Bool
 cuts_before first h skipped = false
 cuts_before first h (effect thread event) = ends_before first h event
 
--- one more block at the front
+-- one more block at the start
 abbrev pub with_front : Whole → Cut → Cut
 with_front w c = record { front = w ∷ c.front; rest = c.rest }
 
@@ -76,7 +76,7 @@ history_to c = events_onto c.front []
 abbrev pub range_from : ℕ → Cut → List Whole
 range_from last c = (cut_before (last + 1) (history_to c) c.rest).front
 
--- a header, a section under thread 0, and blocks as they stand
+-- a header, a section under thread 0, and blocks that are copied
 abbrev pub file_of : ℕ → List Event → List Whole → List ℕ
 file_of m made blocks = header m ++ flat_map (encoding m 0) made ++ flat_map (λ w. w.bytes) blocks
 

@@ -1,4 +1,4 @@
--- What a live object stands on is what it leads to.
+-- What a live object depends on is what it leads to.
 use Rattle.std.proofs.Common.{◌≡◌, ℕ, Bool, filter, option_and_then, true, false, refl, sym, ◌∙◌, ap, subst, List, [], ◌∷◌, ◌++◌, map, flat_map, append-nil, Option, Some, None, if◌then◌else◌, is_some, ◌==◌, ◌&&◌, ◌⊎◌, inl, inr}
 use Rattle.std.specs.Prelude.{Contains}
 use Rattle.std.specs.List.{AllByRecursion, range_with_len}
@@ -260,7 +260,7 @@ module _ (v : View) (h : IsLawful v []) where
         by (StandsBy.by_image c) = (image_live x y c, linked_last (image_linked y d e c))
         by (StandsBy.by_resource k c) = (resource_live x y k c, linked_last (resource_linked y d e k c))
 
-  -- what a live object stands on is live, and it is what it leads to, but for itself
+  -- what a live object depends on is live, and it is what it leads to, but for itself
   pub leads_to : (x y : ℕ) → is_some (v.live x) ≡ true → is_some (v.live y) ≡ true → Contains (grounds v x) y → (x ≡ y) ⊎ Contains (stands_on v x) y
   leads_to x y live there c = by (v.live x) refl live
     where

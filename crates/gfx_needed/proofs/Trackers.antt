@@ -36,7 +36,7 @@ module _ (t : Tracker) where
       ∥∥₁_elim (lawful t) (hlevel props)
       (λ (h : IsLawful (answers t) []). let r = led_to (answers t) h x y live c in (r.0, has_among (grounds (answers t) x) y r.1))
 
-  -- what a live object stands on is live, and is led to
+  -- what a live object depends on is live, and is led to
   pub stood_on : (x y : ℕ) → is_some ((answers t).live x) ≡ true → Contains (stands_on (answers t) x) y →
       (is_some ((answers t).live y) ≡ true) × Contains (grounds (answers t) x) y
   stood_on x y live c = let r = stands_among x y live c in (r.0, contains_among y (grounds (answers t) x) r.1)

@@ -5,7 +5,7 @@ use Rattle.gfx_model.specs.Fields.{Value, atoms_of, named_fields}
 use Rattle.gfx_model.specs.Fields.Value.{names, makes, maybe, names_each, makes_each, records, submitted}
 use Rattle.gfx_script_model.specs.Ids.{atom_ids}
 
--- the ids that a value names or makes; 0 may stand for none
+-- the ids that a value names or makes; 0 may mean none
 abbrev pub value_ids : Value → List ℕ
 value_ids (names n) = n ∷ []
 value_ids (makes n) = n ∷ []

@@ -29,7 +29,7 @@ pub record Marks (v : View) (ids : List ℕ) (old new : NeededIds) : Type 0 wher
   pub pending : (x : ℕ) → Contains new.pending.items x → Contains old.pending.items x ⊎ (is_marked new x ≡ true)
   pub less : work v new ≤ work v old
 
--- What the range names is marked, each mark has its reason, and what a marked id stands on is marked, or is to be.
+-- What the range names is marked, each mark has its reason, and what a marked id depends on is marked, or is to be.
 pub record IsSearched (v : View) (range : List Event) (n : NeededIds) : Type 0 where
   pub named : (x : ℕ) → is_there v x ≡ true → Contains (named_in range) x → is_marked n x ≡ true
   pub needed : (x : ℕ) → is_marked n x ≡ true → Needed v range x

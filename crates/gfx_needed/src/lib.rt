@@ -1,4 +1,4 @@
-//! Which ids a range of events needs of what stands before it.
+//! Which ids a range of events needs of what is before it.
 #![tactic(auto)]
 
 mod fields;

@@ -27,7 +27,7 @@ macro_rules! behind {
     (, $($fields:tt)*) => { marked!($($fields)*) };
 }
 
-/// The section of this name, handed on.
+/// The section of this name, passed on.
 macro_rules! section {
     (devices $to:tt; devices { $($rows:tt)* } $($others:tt)*) => { rows! { $to $($rows)* } };
     (memory $to:tt; memory { $($rows:tt)* } $($others:tt)*) => { rows! { $to $($rows)* } };

@@ -1,4 +1,6 @@
 //! The ids that a range of events needs.
+//!
+//! Each marked id is put on a list of those that were not looked at, so that a chain of objects is walked once.
 ghost use Rattle.std.specs.Prelude.{◌≡◌, ◌≤◌, ◌+◌, ◌∷◌, ◌++◌, [], List, true, flat_map, IfOk, OnOk};
 ghost use Rattle.gfx_model.specs.Events.{Event, event_of, event_of_call};
 ghost use Rattle.gfx_model.specs.Questions.{is_kept};
@@ -19,8 +21,8 @@ use gfx_tracker::Tracker;
 use gfx_types::{Call, Effect, Place, WantMemory};
 use std::alloc::{AllocError, Global};
 
-/// The ids that a range of events needs of what stands before it, as far as they were found. A tracker says what stands
-/// there, the same in all calls. After want of memory it is of no use.
+/// The ids that a range of events needs of what is before it, as far as they were found. A tracker says what stands
+/// there, the same in all calls. When out of memory it is of no use.
 #[derive(Drop)]
 pub struct NeededIds {
     marks: IdSet,
@@ -46,14 +48,14 @@ impl NeededIds {
         }
     }
 
-    /// Takes down what the next effect of the range names or creates of what stands before the range.
+    /// Takes down what the next effect of the range names or creates of what is before the range.
     pub fn name(&mut self, tracker: &Tracker, effect: &Effect<'_>) -> Result<(), WantMemory>
         ensures { OnOk result ((range : List Event) → IsSearched (answers tracker.now) range self.old → IsSearched (answers tracker.now) (range ++ event_of effect.now ∷ []) self.new) }
     {
         Ok(self.mark_named(tracker, effect)?)
     }
 
-    /// Finds what these ids stand on, and what that stands on, to the end.
+    /// Finds what these ids depend on, and what that depends on, to the end.
     pub fn follow(&mut self, tracker: &Tracker) -> Result<(), WantMemory>
         ensures { OnOk result ((range : List Event) → IsSearched (answers tracker.now) range self.old → IsFound (answers tracker.now) range (is_marked self.new)) }
     {

@@ -52,7 +52,7 @@ one_less m p n is = λ i q. (less_at m p n is q) i
 pub none_left : (m : FinMap nat_cmp ℕ) (p n : ℕ) → n ≡ count_of m p → n ≤ 1 → count_of (map.remove m p) ≡ (λ q. if p == q then count_of m q - 1 else count_of m q)
 none_left m p n is few = λ i q. (none_at m p n is few q) i
 
--- a parent with children stands in the map
+-- a parent with children is in the map
 pub counted : (m : FinMap nat_cmp ℕ) (p n : ℕ) → n ≡ count_of m p → 1 ≤ n → None ≡ map.get m p → ⊥
 unfolding count_of
 counted m p n is some none = let a = ap (λ o. unwrap_or o 0) none in omega (arith, is, a)

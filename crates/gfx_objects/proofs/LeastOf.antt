@@ -36,7 +36,7 @@ module _ (after : ℕ) where
       by true is rest = rest (min a x) (looked (Some a) x xs None true is none)
       by false is rest = rest a (looked (Some a) x xs None false is none)
 
-  -- where none is found, none stands above
+  -- where none is found, none is above
   none_listed : (xs : List ℕ) (x : ℕ) → least_from None xs ≡ None → after < x → is_listed x xs ≡ false
   none_listed [] x none above = refl
   none_listed (y ∷ ys) x none above = by (nat_lt after y) refl (λ e. none_listed ys x e above)
@@ -56,7 +56,7 @@ module _ (after : ℕ) where
       by true e rest = let less = rest (min a y) id (looked (Some a) y ys (Some id) true e is) in omega (arith, less)
       by false e rest = rest a id (looked (Some a) y ys (Some id) false e is)
 
-  -- nor than the id at the front
+  -- nor than the id at the start
   below_front : (ys : List ℕ) (y : ℕ) (found : Option ℕ) (id : ℕ) → least_from found (y ∷ ys) ≡ Some id → nat_lt after y ≡ true → id ≤ y
   below_front ys y None id is above = below_found ys y id (looked None y ys (Some id) true above is)
   below_front ys y (Some a) id is above = let less = below_found ys (min a y) id (looked (Some a) y ys (Some id) true above is) in omega (arith, less)
@@ -73,7 +73,7 @@ module _ (after : ℕ) where
           omega (arith, less, same)
       by false e rest = rest (sym (ap (λ t. t || is_listed x ys) e) ∙ listed)
 
-  -- what is found was listed and stands above, or was found before
+  -- what is found was listed and is above, or was found before
   comes : (xs : List ℕ) (found : Option ℕ) (id : ℕ) → least_from found xs ≡ Some id → (option_map_or (λ a. a == id) found false || (nat_lt after id && is_listed id xs)) ≡ true
   comes [] found id is = ap (λ f. option_map_or (λ a. a == id) f false || (nat_lt after id && false)) is ∙ (let e : ((id == id) || (nat_lt after id && false)) ≡ true = grind (arith, nat_tests) in e)
   comes (y ∷ ys) found id is = let rest = comes ys (least_with after found y) id is in by found (nat_lt after y) refl rest

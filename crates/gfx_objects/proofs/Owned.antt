@@ -1,5 +1,5 @@
 -- What the owner of queues, command buffers and fetched images takes with it.
-use Rattle.std.proofs.Common.{◌≡◌, ℕ, zero, suc, ◌==◌, ◌&&◌, true, false, not, List, [], ◌∷◌, slice_get, length, ◌-◌, Option, Some, None, if◌then◌else◌, refl, ap, sym, ◌∙◌, arith}
+use Rattle.std.proofs.Common.{◌≡◌, ℕ, zero, suc, ◌==◌, ◌&&◌, Bool, true, false, not, List, [], ◌∷◌, slice_get, length, ◌-◌, Option, Some, None, if◌then◌else◌, refl, ap, sym, ◌∙◌, arith}
 use Rattle.std.specs.Prelude.{option_map, option_and_then}
 use Rattle.std.specs.Ordering.{nat_cmp}
 use Rattle.std.specs.FinMap as map
@@ -13,14 +13,15 @@ use Rattle.gfx_table.specs.Values.{kept_rows, get-with_rows}
 use Rattle.gfx_table.specs.Rows.{same_rows}
 use Rattle.gfx_model.specs.Questions.{is_owned, goes_with, passes}
 use Rattle.gfx_objects.specs.declared.object.Object.{Object}
-use Rattle.gfx_objects.specs.Object.{made, is_owned_by}
+use Rattle.gfx_objects.specs.Object.{made, owner_of, is_owned_by}
 use Rattle.gfx_objects.specs.declared.objects.Objects.TheInside.{Inside}
-use Rattle.gfx_objects.specs.Children.{count_of}
+use Rattle.gfx_objects.specs.Children.{is_at, count_of}
 use Rattle.gfx_objects.specs.Inside.{kept_of, IsKept}
-use Rattle.gfx_objects.specs.Objects.{Kept, answers}
+use Rattle.gfx_objects.specs.Objects.{Kept, answers, owns, AreGrouped}
+use Rattle.gfx_objects.proofs.Asked.{owned_answered}
 use Rattle.gfx_objects.proofs.Index.{at_remove}
 use Rattle.gfx_objects.proofs.Kept.{sound_same}
-use Rattle.gfx_objects.proofs.Grouped.{grouped_same}
+use Rattle.gfx_objects.proofs.Grouped.{gone_under, take_out, grouped_same}
 
 -- ---- the ids that an object owns
 
@@ -55,6 +56,17 @@ pub not_owned_row : (k : Kept) (owner id : ℕ) (o : Object) → passes (λ o. i
     → map.get k.rows id ≡ Some o → is_owned_by owner o ≡ false
 unfolding answers
 not_owned_row k owner id o free some = sym (ap (λ q. passes (λ o. is_owned o.detail && owner == o.parent) (option_map made q)) some) ∙ free
+
+-- what is owned yet is in the set of its owner
+pub still_owned : (m : FinMap nat_cmp Object) (owned : ℕ → ℕ → Bool) (id : ℕ) (o : Object) → AreGrouped owner_of m owned → map.get m id ≡ Some o
+    → (k : Kept) → k.rows ≡ map.remove m id → (now : ℕ → ℕ → Bool) → ((g x : ℕ) → now g x ≡ (if is_at g (owner_of o) && id == x then false else owned g x))
+    → (x y : ℕ) → owns (answers k) x y ≡ true → now x y ≡ true
+still_owned m owned id o was some k rows now taken x y is =
+    gone_under owner_of m k.rows id owned now was rows (take_out owner_of m k.rows id owned now was o some taken) x y ∙ owned_answered k x y ∙ is
+
+-- what doesn't own an object is not its owner
+pub not_owner : (k : Kept) (id : ℕ) (o : Object) → map.get k.rows id ≡ Some o → (x : ℕ) → owns (answers k) x id ≡ false → is_at x (owner_of o) ≡ false
+not_owner k id o some x free = sym (ap (λ q. is_at x (option_and_then owner_of q)) some) ∙ owned_answered k x id ∙ free
 
 -- ---- all that ends with an object
 
@@ -100,7 +112,33 @@ all_ended id first now n left free itself =
         let not_owned = free x o here in
         grind (arith, nat_tests, g, here, not_owned)
 
--- all that is kept stays so where what is owned stands in other tables with the same members
+-- what an owner of others owned is its own at first too
+pub owned_first : (id x y : ℕ) (first now : Kept) → IsLeft id first.rows now.rows → owns (answers first) x y ≡ false → owns (answers now) x y ≡ false
+unfolding answers
+owned_first id x y first now left free = by (map.get now.rows y) refl
+  where
+    by : (q : Option Object) → map.get now.rows y ≡ q → passes (λ o. is_owned o.detail && x == o.parent) (option_map made q) ≡ false
+    by None none = refl
+    by (Some o) some = sym (ap (λ q. passes (λ o. is_owned o.detail && x == o.parent) (option_map made q)) (left.same y o some)) ∙ free
+
+-- what one object owns no other does
+pub owned_once : (k : Kept) (id x child : ℕ) → (id == x) ≡ false → (o : Object) → map.get k.rows child ≡ Some o → is_owned_by id o ≡ true → owns (answers k) x child ≡ false
+unfolding answers
+owned_once k id x child apart o some owned =
+    ap (λ q. passes (λ o. is_owned o.detail && x == o.parent) (option_map made q)) some ∙ grind (arith, nat_tests, apart, owned)
+
+-- once all that an object owned is gone it owns nothing
+pub owns_nothing : (now k : Kept) (id y : ℕ) → k.rows ≡ map.remove now.rows id → owns (answers now) id y ≡ false → owns (answers k) id y ≡ false
+unfolding answers
+owns_nothing now k id y rows free =
+    ap (λ m. passes (λ o. is_owned o.detail && id == o.parent) (option_map made (map.get m y))) rows
+    ∙ ap (λ q. passes (λ o. is_owned o.detail && id == o.parent) (option_map made q)) (at_remove now.rows id y) ∙ cases (id == y)
+  where
+    cases : (t : Bool) → passes (λ o. is_owned o.detail && id == o.parent) (option_map made (if t then None else map.get now.rows y)) ≡ false
+    cases true = refl
+    cases false = free
+
+-- all that is kept stays so where what is owned is in other tables with the same members
 pub owned_anew : (s : Inside) (owned : Groups) → is_member owned.sets.map ≡ is_member s.owned.sets.map → IsKept s → IsKept (record s { owned = owned })
 unfolding answers
 owned_anew s owned same kept = record {

@@ -36,7 +36,7 @@ module _ {X : Type 0} (m : FinMap nat_cmp X) (after : ℕ) where
   pub least_kept : (id : ℕ) → least_above m after ≡ Some id → is_some (map.get m id) ≡ true
   least_kept id is = ap is_some (get-entries m id) ∙ find_kept (λ x. nat_lt after x) (entries m) id is
 
-  -- nothing stands between
+  -- nothing is between
   pub least_first : (id : ℕ) → least_above m after ≡ Some id → (x : ℕ) → after < x → x < id → map.get m x ≡ None
   least_first id is x above below = cases (map.get m x) refl
     where
@@ -47,7 +47,7 @@ module _ {X : Type 0} (m : FinMap nat_cmp X) (after : ℕ) where
           let le = find_first (λ x. nat_lt after x) (entries m) id x o (entries_sorted m) is (sym (get-entries m x) ∙ e) p in
           absurd (omega (arith, le, below))
 
-  -- nothing stands above
+  -- nothing is above
   pub least_none : least_above m after ≡ None → (x : ℕ) → after < x → map.get m x ≡ None
   least_none is x above = cases (map.get m x) refl
     where

@@ -1,5 +1,5 @@
 -- What is kept of all objects, and what it answers to the questions of a capture.
-use Rattle.std.specs.Prelude.{◌≡◌, ℕ, ◌+◌, ◌<◌, ◌≤◌, ◌==◌, ◌||◌, Bool, true, false, Option, Some, None, is_some, option_map, option_and_then, if◌then◌else◌, refl}
+use Rattle.std.specs.Prelude.{◌≡◌, ℕ, ◌+◌, ◌<◌, ◌≤◌, ◌==◌, ◌&&◌, ◌||◌, Bool, true, false, Option, Some, None, is_some, option_map, option_and_then, if◌then◌else◌, refl}
 use Rattle.std.specs.Option.{option_map_or}
 use Rattle.std.specs.Ordering.{nat_cmp}
 use Rattle.std.specs.Coded.{Coded, code_by, coded×, coded_ℕ}
@@ -11,7 +11,7 @@ use Rattle.gfx_table.specs.IdSet.{holds}
 use Rattle.gfx_table.specs.Values.{with_rows}
 use Rattle.gfx_table.specs.Rows.{total}
 use Rattle.gfx_model.specs.Steps.{Detail, kind_of}
-use Rattle.gfx_model.specs.Questions.{Binding, new_buffer}
+use Rattle.gfx_model.specs.Questions.{Binding, is_owned, new_buffer, passes}
 use Rattle.gfx_model.specs.Views.{View, detail_size, detail_bytes}
 use Rattle.gfx_model.specs.Limits.{max_live_bytes, max_live_objects}
 use Rattle.gfx_objects.specs.declared.object.Object.{Object}
@@ -56,6 +56,10 @@ answers k = record {
   is_empty = false;
   section = None;
 }
+
+-- the object of the second id is live, and the first owns it
+abbrev pub owns : View → ℕ → ℕ → Bool
+owns v owner id = passes (λ o. is_owned o.detail && owner == o.parent) (v.live id)
 
 -- a row and its id
 pub record IsRow (id : ℕ) (o : Object) : Type 0 where

@@ -1,4 +1,6 @@
 //! Which device an object is of.
+//!
+//! Checks ask it again and again for one object, so the device of one object is kept at hand until an object changes.
 ghost use Rattle.std.specs.Prelude.{◌≡◌, IfSome};
 ghost use Rattle.gfx_model.specs.Views as view;
 ghost use Rattle.gfx_objects.specs.Objects.{answers};

@@ -1,4 +1,8 @@
 //! The live objects, and the ids of those that ended.
+//!
+//! One call ends an object with its command buffers, its queue or its images, since that is one step of the history.
+//! The ids of what ended are remembered, and those of live objects are not: an id was used where its object is live or
+//! ended.
 ghost use Rattle.std.specs.Prelude.{◌≡◌, ℕ, ◌+◌, ◌-◌, ◌<◌, ◌≤◌, ◌^◌, ◌==◌, ◌&&◌, ◌||◌, [], true, false, Some, None, IsTrue, IsSome, IfSome, IfOk, OnOk, OnErr, option_map, if◌then◌else◌};
 ghost use Rattle.std.specs.Option.{option_copied};
 ghost use Rattle.std.specs.FinMap as map;
@@ -13,7 +17,7 @@ ghost use Rattle.gfx_table.specs.Dense.{is_listed, StandApart};
 ghost use Rattle.gfx_table.specs.Slots.{least_above};
 ghost use Rattle.gfx_table.specs.Groups.{room_in};
 ghost use Rattle.gfx_objects.specs.Object.{made, detail_of, bound_of, memory_of, IsNew, is_within};
-ghost use Rattle.gfx_objects.specs.Objects.{answers, was_used, of_owner, IsRow, RestsIn, IsSound, bytes_in};
+ghost use Rattle.gfx_objects.specs.Objects.{answers, was_used, owns, of_owner, IsRow, RestsIn, IsSound, bytes_in};
 
 use crate::children::ChildCounts;
 use crate::devices::Noted;
@@ -23,7 +27,7 @@ use crate::object::{Binding, Detail, Object};
 use crate::tables::{move_to, put_in, reserve_each, take_from};
 use gfx_table::{Groups, IdSet, Stored};
 use gfx_types::{Kind, MapRange, WantMemory};
-use std::alloc::{AllocError, Global};
+use std::alloc::Global;
 use std::marker::Model;
 
 // So many creations are made room for at once.
@@ -159,10 +163,10 @@ impl Objects {
     }
 
     /// The ids of all live objects, rising.
-    pub fn ids(&self, alloc: Global) -> Result<Vec<u64>, AllocError>
+    pub fn ids(&self, alloc: Global) -> Result<Vec<u64>, WantMemory>
         ensures { IfOk result (λ ids. ids.items ≡ (answers self.now).ids) }
     {
-        self.rows.ids(alloc)
+        Ok(self.rows.ids(alloc)?)
     }
 
     /// The least id above the given one among what the object owns.
@@ -173,7 +177,7 @@ impl Objects {
         least_of(self.owned.members(owner), after)
     }
 
-    /// Makes room for so many creations, and for as many in what the parent owns. For want of memory there is the room that
+    /// Makes room for so many creations, and for as many in what the parent owns. When out of memory there is the room that
     /// there was, or more.
     pub fn reserve(&mut self, n: u32, parent: u64) -> Result<(), WantMemory>
         ensures same { answers self.new ≡ answers self.old }
@@ -224,8 +228,8 @@ impl Objects {
         });
     }
 
-    /// Binds a live buffer or image to a live memory, at an offset in bytes from which it ends inside the memory. For want of
-    /// memory nothing is bound.
+    /// Binds a live buffer or image to a live memory, at an offset in bytes from which it ends inside the memory. When out
+    /// of memory nothing is bound.
     pub fn bind(&mut self, id: u64, memory: u64, offset: u64) -> Result<(), WantMemory>
         requires resource { IsTrue (view.is_live (answers self.old) kind.Buffer id || view.is_live (answers self.old) kind.Image id) }
         requires memory { IsTrue (view.is_live (answers self.old) kind.Memory memory) }
@@ -233,6 +237,7 @@ impl Objects {
         ensures ok { OnOk result (answers self.new ≡ after (answers self.old) (binds id memory offset)) }
         ensures err { OnErr result (answers self.new ≡ answers self.old) }
         ensures spare { self.new.spare ≡ self.old.spare }
+        ensures rooms { (x : ℕ) → room_in self.old.owned x ≤ room_in self.new.owned x }
     {
         let Some(object) = self.get(id).copied() else {
             return Ok(());
@@ -246,6 +251,7 @@ impl Objects {
         requires { IsTrue (view.is_live (answers self.old) kind.Memory memory) }
         ensures step { answers self.new ≡ after (answers self.old) (maps memory offset length) }
         ensures spare { self.new.spare ≡ self.old.spare }
+        ensures rooms { (x : ℕ) → room_in self.old.owned x ≤ room_in self.new.owned x }
     {
         if let Some(object) = self.get(memory).copied() {
             let detail = object.detail.mapped_to(Some(MapRange { offset, length }));
@@ -258,6 +264,7 @@ impl Objects {
         requires { IsTrue (view.is_live (answers self.old) kind.Memory memory) }
         ensures step { answers self.new ≡ after (answers self.old) (unmaps memory) }
         ensures spare { self.new.spare ≡ self.old.spare }
+        ensures rooms { (x : ℕ) → room_in self.old.owned x ≤ room_in self.new.owned x }
     {
         if let Some(object) = self.get(memory).copied() {
             let detail = object.detail.mapped_to(None);
@@ -270,6 +277,7 @@ impl Objects {
         requires { IsTrue (view.is_live (answers self.old) kind.Image image) }
         ensures step { answers self.new ≡ after (answers self.old) (changes (set_layout image layout)) }
         ensures spare { self.new.spare ≡ self.old.spare }
+        ensures rooms { (x : ℕ) → room_in self.old.owned x ≤ room_in self.new.owned x }
     {
         if let Some(object) = self.get(image).copied() {
             if object.detail.layout() != layout {
@@ -280,11 +288,13 @@ impl Objects {
     }
 
     /// Ends a live object, and with it what it owns: the queue of a device, the command buffers of a pool, the fetched
-    /// images of a swapchain.
+    /// images of a swapchain. Room for what other objects own stays, except where this was the last of it.
     pub fn remove(&mut self, id: u64)
         requires { IsSome ((answers self.old).live id) }
         ensures step { answers self.new ≡ after (answers self.old) (ends id) }
         ensures spare { self.new.spare ≡ self.old.spare }
+        ensures left { (x y : ℕ) → owns (answers self.new) x y ≡ true → room_in self.old.owned x ≤ room_in self.new.owned x }
+        ensures others { (x : ℕ) → (id == x) ≡ false → owns (answers self.old) x id ≡ false → room_in self.old.owned x ≤ room_in self.new.owned x }
     {
         'owned: while let Some(child) = self.owned(id).last().copied() {
             self.remove_row(child);
@@ -327,13 +337,14 @@ impl Objects {
         requires bound { bound_of detail ≡ bound_of object.detail }
         ensures rows { self.new.rows ≡ map.insert self.old.rows id (record object { detail = detail }) }
         ensures ended { self.new.ended ≡ self.old.ended }
+        ensures owned { self.new.owned ≡ self.old.owned }
         ensures spare { self.new.spare ≡ self.old.spare }
     {
         self.noted = None;
         self.rows.set(id, Object { detail, ..object });
     }
 
-    // Changes what a row is bound to. For want of memory it stays as it is.
+    // Changes what a row is bound to. When out of memory it stays as it is.
     fn rest_on(
         &mut self,
         id: u64,
@@ -348,6 +359,7 @@ impl Objects {
         ensures ok { OnOk result (self.new.rows ≡ map.insert self.old.rows id (record object { detail = detail })) }
         ensures err { OnErr result (self.new.rows ≡ self.old.rows) }
         ensures ended { self.new.ended ≡ self.old.ended }
+        ensures owned { self.new.owned ≡ self.old.owned }
         ensures spare { self.new.spare ≡ self.old.spare }
     {
         self.resting.reserve(memory, 1)?;
@@ -363,6 +375,8 @@ impl Objects {
         ensures rows { self.new.rows ≡ map.remove self.old.rows id }
         ensures used { was_used self.new ≡ was_used self.old }
         ensures spare { self.new.spare ≡ self.old.spare }
+        ensures left { (x y : ℕ) → owns (answers self.new) x y ≡ true → room_in self.old.owned x ≤ room_in self.new.owned x }
+        ensures others { (x : ℕ) → owns (answers self.old) x id ≡ false → room_in self.old.owned x ≤ room_in self.new.owned x }
     {
         self.noted = None;
         if let Some(object) = self.rows.remove(id) {

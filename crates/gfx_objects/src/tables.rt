@@ -1,5 +1,5 @@
 //! What is done to some of the tables, whatever the others say.
-ghost use Rattle.std.specs.Prelude.{◌≡◌, ℕ, ◌+◌, ◌<◌, ◌≤◌, ◌^◌, ◌==◌, ◌&&◌, ◌||◌, false, Some, OnOk, if◌then◌else◌};
+ghost use Rattle.std.specs.Prelude.{◌≡◌, ℕ, ◌+◌, ◌<◌, ◌≤◌, ◌^◌, ◌==◌, ◌&&◌, ◌||◌, true, false, Some, OnOk, if◌then◌else◌};
 ghost use Rattle.gfx_table.specs.Groups.{is_member, room_in};
 ghost use Rattle.gfx_table.specs.IdSet.{holds};
 ghost use Rattle.gfx_objects.specs.Children.{is_at, count_of};
@@ -53,7 +53,9 @@ pub(crate) fn put_in(groups: &mut Groups, group: Option<u64>, id: u64)
 
 /// Takes the id out of the set of this group, where there is a group.
 pub(crate) fn take_from(groups: &mut Groups, group: Option<u64>, id: u64)
-    ensures { (g x : ℕ) → is_member groups.new.sets.map g x ≡ (if is_at g group && id == x then false else is_member groups.old.sets.map g x) }
+    ensures members { (g x : ℕ) → is_member groups.new.sets.map g x ≡ (if is_at g group && id == x then false else is_member groups.old.sets.map g x) }
+    ensures left { (g x : ℕ) → is_member groups.new.sets.map g x ≡ true → room_in groups.old.sets.map g ≤ room_in groups.new.sets.map g }
+    ensures others { (g : ℕ) → is_at g group ≡ false → room_in groups.old.sets.map g ≤ room_in groups.new.sets.map g }
 {
     if let Some(its) = group {
         groups.remove(its, id);

@@ -3,7 +3,7 @@ use Rattle.std.proofs.Common.{◌≡◌, ℕ, ◌<◌, zero, suc, List, [], ◌�
 use Rattle.std.specs.List.{AllByRecursion}
 use Rattle.std.proofs.Math.Seq.{take-append_seam}
 
--- what stood at the front stays there
+-- what was at the start stays there
 pub front_stays : {X : Type 0} (old more new : List X) → new ≡ old ++ more → take (length old) new ≡ old
 front_stays old more new grown = ap (take (length old)) grown ∙ take-append_seam old more
 

@@ -18,7 +18,7 @@ use Rattle.gfx_ops.specs.declared.shape.Shape.{Shape}
 abbrev pub shape_of : View → ℕ → Shape
 shape_of v image = record { width = width_of v image; height = height_of v image; texel = texel v image }
 
--- where a texel stands in the window of an image of this shape
+-- where a texel is in the window of an image of this shape
 abbrev pub texel_in : Shape → ℕ → ℕ → ℕ
 texel_in s x y = (y * s.width + x) * s.texel
 

@@ -39,7 +39,7 @@ macro_rules! appended {
 }
 
 /// Appends the operations of a recorded command to a list. The command breaks no check of its row but perhaps that its
-/// buffer is recording and that there is room. For want of memory the list begins with what it was.
+/// buffer is recording and that there is room. When out of memory the list begins with what it was.
 #[tactic(auto, unfolding(crate::specs::Operations::ops_of_command))]
 pub fn append_ops(
     alloc: Global,

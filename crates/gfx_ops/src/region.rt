@@ -25,7 +25,7 @@ pub(crate) trait MakesOp<T> {
         ensures { result ≡ op_of self.now item.now };
 }
 
-/// Appends the operation of each item. For want of memory the list begins with what it was.
+/// Appends the operation of each item. When out of memory the list begins with what it was.
 pub(crate) fn append_each<T, M: MakesOp<T>>(
     maker: &M,
     items: &[T],

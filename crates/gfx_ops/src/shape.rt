@@ -86,7 +86,7 @@ impl Shape {
         u64::from(count) * u64::from(self.texel)
     }
 
-    /// Where a texel stands in the window of the image, in bytes.
+    /// Where a texel is in the window of the image, in bytes.
     pub(crate) fn texel_at(self, x: u32, y: u32) -> u64
         requires column { x ≤ max_extent }
         requires row { y ≤ max_extent }

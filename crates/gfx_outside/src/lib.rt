@@ -1,8 +1,8 @@
 //! A run of the program for tests, with all that is outside of it in memory.
 #![tactic(auto)]
 
-use gfx_cli::{Status, run_capture, run_fan, run_files};
-use gfx_io::{MemSink, MemSource, NoGate};
+use gfx_cli::{Status, run, run_capture, run_fan, run_files};
+use gfx_io::{Gate, MemSink, MemSource, NoGate};
 use std::alloc::{AllocError, Global};
 use std::sync::Wait;
 use std::test::Fail;
@@ -88,7 +88,7 @@ impl<'a> Outside<'a> {
         Outside::of(&["replay"], input)
     }
 
-    /// The same, of which at most so many bytes go at a time.
+    /// Moves at most so many bytes at a time.
     pub fn at_most(self, most: usize) -> Self {
         Outside { most, ..self }
     }
@@ -133,6 +133,24 @@ impl<'a> Outside<'a> {
             notes,
         } = &mut streams;
         let status = run_capture(rt, alloc, &words, source, sink, notes, &NoGate);
+        Ok(streams.ended(status))
+    }
+
+    /// How the program's one call ends, with the gate that threads of a script tell of their lines.
+    pub fn gated<R: Threads + Wait + Sync, G: Gate + Sync>(
+        self,
+        rt: &R,
+        alloc: Global,
+        gate: &G,
+    ) -> Result<Ended, AllocError> {
+        let words = words_of(alloc, self.words)?;
+        let mut streams = self.streams(alloc)?;
+        let Streams {
+            source,
+            sink,
+            notes,
+        } = &mut streams;
+        let status = run(rt, alloc, &words, source, sink, notes, gate);
         Ok(streams.ended(status))
     }
 

@@ -80,11 +80,11 @@ keeps_chain d x y at n done m h p q = (
   q.2 ∙ p.2,
 )
 
--- of what is pasted only the front counts
+-- of what is pasted only the prefix counts
 pub paste_same : (d : List ℕ) (at : ℕ) (s t : List ℕ) (n : ℕ) → take n s ≡ take n t → paste d at s n ≡ paste d at t n
 paste_same d at s t n e = ap (λ x. take at d ++ x ++ drop (at + n) d) e
 
--- the front of zeros from a place on
+-- the prefix of zeros from a place on
 pub zeros_part : (n from k : ℕ) → from + k ≤ n → take {A = ℕ} k (drop from (replicate n 0)) ≡ replicate k 0
 zeros_part n from k h = ap (λ (x : List ℕ). take k x) (drop-replicate from n 0) ∙ take-replicate k (n - from) 0 (omega arith)
 

@@ -28,7 +28,7 @@ repeated_part w n done m z h =
 pub repeated_front : (w n m : ℕ) → m ≤ n → take m (repeated w n) ≡ repeated w m
 repeated_front w n m h = take-map-range_with_len (λ k. slice_index (to_le_bytes w32 w) (k % 4)) 0 n m h
 
--- the front of the pattern is the next part of the fill
+-- the prefix of the pattern is the next part of the fill
 pub pattern_part : (p : List ℕ) (w long n done m : ℕ) → p ≡ repeated w long → m ≤ length p → done % 4 ≡ 0 → done + m ≤ n
     → take m p ≡ slice_range (repeated w n) done (done + m)
 pattern_part p w long n done m e l z h = ap (take m) e ∙ repeated_front w long m (omega (arith, ap length e, length-repeated w long)) ∙ repeated_part w n done m z h

@@ -1,8 +1,7 @@
 use std::alloc::{AllocError, AllocFailed};
 
 /// There is no memory for a page.
-#[derive(Debug, Drop, Clone, Copy, PartialEq, Eq, thiserror::Error)]
-#[error("out of memory")]
+#[derive(Debug, Drop, Clone, Copy, PartialEq, Eq)]
 pub struct WantMemory;
 
 impl From<AllocError> for WantMemory {

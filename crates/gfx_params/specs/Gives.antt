@@ -6,7 +6,7 @@ use Rattle.gfx_grammar.specs.Rows.{exactly}
 use Rattle.gfx_params.specs.declared.fault.ParamFault.{ParamFault}
 use Rattle.gfx_params.specs.declared.fault.ParamFault.TheVariants.{BadParams, WantMemory}
 
--- bad fields are exactly what the grammar does not read; memory is wanted only for what it reads
+-- bad fields are exactly what the grammar does not read; memory is needed only for what it reads
 abbrev pub Fails : {Y : Type 0} → ParamFault → Option Y → Type 0
 Fails BadParams read = read ≡ None
 Fails WantMemory read = read ≢ None
@@ -20,6 +20,6 @@ Gives seen (Err fault) read = Fails fault read
 abbrev pub GivesWhole : {X Y : Type 0} → (X → Y) → Reader Y → List ℕ → Result X ParamFault → Type 0
 GivesWhole {X} {Y} seen reader bytes result = (build : Y → Event) → Gives (λ x. build (seen x)) result (exactly build reader bytes)
 
--- the bytes begin with what the reader reads, and these stand behind it
+-- the bytes begin with what the reader reads, and these follow it
 abbrev pub StandsBehind : {Y : Type 0} → Option (Y × List ℕ) → List ℕ → Type 0
 StandsBehind {Y} read rest = (y : Y) × (read ≡ Some (y, rest))

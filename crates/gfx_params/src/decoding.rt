@@ -9,7 +9,7 @@ use crate::read::read_whole;
 use gfx_types::{Call, Ids, Meta, Present, Presents, calls, in_order, metas};
 use std::alloc::Global;
 
-/// The section of this name, handed on.
+/// The section of this name, passed on.
 macro_rules! decoded {
     (devices $to:tt; devices { $($rows:tt)* } $($others:tt)*) => { decoded_rows! { $to $($rows)* } };
     (memory $to:tt; memory { $($rows:tt)* } $($others:tt)*) => { decoded_rows! { $to $($rows)* } };

@@ -30,7 +30,7 @@ macro_rules! measured {
     };
 }
 
-/// Appends the fields of a call in this minor version. After want of memory `out` is as it was.
+/// Appends the fields of a call in this minor version. When out of memory `out` is as it was.
 pub fn encode(minor: u32, call: &Call<'_>, out: &mut Vec<u8>) -> Result<(), WantMemory>
     requires version { (minor ≡ 1) ⊎ (minor ≡ 2) }
     requires fits { HasSpelling minor (event_of_call call.now) }
@@ -43,7 +43,7 @@ pub fn encode(minor: u32, call: &Call<'_>, out: &mut Vec<u8>) -> Result<(), Want
     Ok(())
 }
 
-/// Appends the fields of a metadata, which are the same in both versions. After want of memory `out` is as it was.
+/// Appends the fields of a metadata, which are the same in both versions. When out of memory `out` is as it was.
 pub fn encode_meta(meta: &Meta<'_>, out: &mut Vec<u8>) -> Result<(), WantMemory>
     requires { HasSpelling 1 (event_of_meta meta.now) }
     ensures ok { OnOk result (out.new.items ≡ out.old.items ++ spelling 1 (event_of_meta meta.now)) }
@@ -65,7 +65,7 @@ pub fn length(minor: u32, call: &Call<'_>) -> u64
     call_length(minor, call)
 }
 
-/// Appends so many zeros. After want of memory `out` is as it was.
+/// Appends so many zeros. When out of memory `out` is as it was.
 fn make_room(out: &mut Vec<u8>, size: u64) -> Result<(), WantMemory>
     ensures ok { OnOk result (out.new.items ≡ out.old.items ++ replicate size 0) }
     ensures few { OnOk result (size < 18446744073709551615) }

@@ -4,7 +4,7 @@ ghost use Rattle.gfx_params.specs.declared.fault.ParamFault.TheVariants.{WantMem
 
 use std::alloc::{AllocError, AllocFailed};
 
-/// Why the fields of a payload give no value: they have no spelling, or there is no memory for their lists.
+/// The fields have no spelling, or there is no memory for their lists.
 #[derive(Clone, Copy, Debug, PartialEq, Eq)]
 pub enum ParamFault {
     BadParams,

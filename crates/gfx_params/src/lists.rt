@@ -16,7 +16,7 @@ use gfx_types::{
 };
 use std::alloc::{AllocError, Global};
 
-/// What stands behind a list at the front of the bytes.
+/// What follows a list at the start of the bytes.
 #[tactic(auto, unfolding(gfx_grammar::specs::Reading::read_list))]
 fn skip_items<'a, T: ReadFields<'a>>(bytes: &'a [u8]) -> Option<&'a [u8]>
     ensures { MatchOption result (read_list T.reader bytes.now ≡ None) (λ rest. StandsBehind (read_list T.reader bytes.now) rest.now) }
@@ -34,7 +34,7 @@ fn skip_items<'a, T: ReadFields<'a>>(bytes: &'a [u8]) -> Option<&'a [u8]>
     Some(rest)
 }
 
-/// The items of the list at the front of the bytes, and what stands behind it.
+/// The items of the list at the start of the bytes, and what follows it.
 #[tactic(auto, unfolding(gfx_grammar::specs::Reading::read_list))]
 fn read_items<'a, T: ReadFields<'a>>(
     alloc: Global,

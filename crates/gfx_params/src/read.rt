@@ -1,4 +1,6 @@
-// Reading of fields as they stand in a payload.
+// Reads the fields of a payload.
+//
+// `skip` goes over the whole spelling before `read` makes lists, so bad fields are never answered by a lack of memory.
 ghost use Rattle.std.specs.Prelude.{◌≡◌, ◌<◌, ℕ, List, Some, None, IfOk, IsSome, MatchOption};
 ghost use Rattle.std.specs.Int.{w32, w64};
 ghost use Rattle.gfx_grammar.specs.Reading.{Reader, read_number, read_raw, ◌⊗◌};
@@ -18,11 +20,11 @@ pub trait ReadFields<'a>: Sized + Drop {
     /// How the grammar reads it.
     ghost reader: { Reader Seen };
 
-    /// What stands behind the fields at the front of the bytes, None where the bytes don't begin with them.
+    /// What follows the fields at the start of the bytes, None where the bytes don't begin with them.
     fn skip(bytes: &'a [u8]) -> Option<&'a [u8]>
         ensures { MatchOption result (reader bytes.now ≡ None) (λ rest. StandsBehind (reader bytes.now) rest.now) };
 
-    /// The fields at the front of the bytes, and what stands behind them.
+    /// The fields at the start of the bytes, and what follows them.
     fn read(alloc: Global, bytes: &'a [u8]) -> Result<(Self, &'a [u8]), AllocError>
         requires { IsSome (reader bytes.now) }
         ensures { IfOk result (λ read. reader bytes.now ≡ Some (seen read.0, read.1.now)) };
@@ -42,7 +44,7 @@ pub fn read_whole<'a, T: ReadFields<'a>>(alloc: Global, bytes: &'a [u8]) -> Resu
     }
 }
 
-/// The number in the first four bytes, and what stands behind them.
+/// The number in the first four bytes, and what follows them.
 #[tactic(auto, unfolding(gfx_grammar::specs::Reading::read_number))]
 pub fn front_u32(bytes: &[u8]) -> Option<(u32, &[u8])>
     ensures { MatchOption result (read_number w32 bytes.now ≡ None) (λ read. read_number w32 bytes.now ≡ Some (read.0, read.1.now)) }
@@ -51,7 +53,7 @@ pub fn front_u32(bytes: &[u8]) -> Option<(u32, &[u8])>
     Some((number, &bytes[4..]))
 }
 
-/// The number in the first eight bytes, and what stands behind them.
+/// The number in the first eight bytes, and what follows them.
 #[tactic(auto, unfolding(gfx_grammar::specs::Reading::read_number))]
 pub fn front_u64(bytes: &[u8]) -> Option<(u64, &[u8])>
     ensures { MatchOption result (read_number w64 bytes.now ≡ None) (λ read. read_number w64 bytes.now ≡ Some (read.0, read.1.now)) }

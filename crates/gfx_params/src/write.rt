@@ -1,4 +1,7 @@
-// Writing of fields as they stand in a payload.
+// Writes the fields of a payload over bytes.
+//
+// Fields are measured, room is made for all, and each is put in its place, so memory is asked for once and a refusal
+// leaves no half of a call.
 ghost use Rattle.std.specs.Prelude.{◌≡◌, ◌≤◌, ◌+◌, ◌^◌, ℕ, List, ◌++◌, [], ◌∷◌, length, min};
 ghost use Rattle.gfx_model.specs.Spelling.{Field, id, u32 as number, raw, list_of, id_fields, word_fields, barrier_fields, buffer_region_fields, image_region_fields, mixed_region_fields, submit_fields, present_fields};
 ghost use Rattle.gfx_grammar.specs.Reads.{Fits, text_of};

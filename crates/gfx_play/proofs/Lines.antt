@@ -72,7 +72,7 @@ text_is : (a : Asked) (pixels : Bool) (all : List ℕ) → lines_of (listing_of 
 unfolding lines_of
 text_is a pixels all = refl
 
--- the lines of the first frames are a front of it
+-- the lines of the first frames are a prefix of it
 pub lines_front : (a : Asked) (pixels : Bool) (shown : List Frame) (all : List ℕ) (before after : Option (List ℕ)) → ShowsFirst shown all →
     AppendsPart before after (lines_of (listing_of (minor_of all) pixels) (asked_of a shown)) → AppendsPart before after (text_in a pixels all)
 lines_front a pixels shown all before after s part =

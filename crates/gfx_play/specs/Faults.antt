@@ -1,4 +1,4 @@
--- Faults of a printer, handed on.
+-- Faults of a printer, passed on.
 use Rattle.gfx_frames.specs.declared.lines.PrintFault.{PrintFault}
 use Rattle.gfx_frames.specs.declared.lines.PrintFault.TheVariants as printer
 use Rattle.gfx_player.specs.declared.fault.PlayFault.{PlayFault}

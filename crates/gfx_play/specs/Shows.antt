@@ -56,7 +56,7 @@ pub record IsWithout (a : Asked) (pixels : Bool) (before after : Option (List �
   pub text : Appends before after (lines_in a pixels bytes)
   pub read : left ≡ []
 
--- A read failed. In the bytes that were given stands neither a bad block nor the last frame that is asked for, and the next block isn't whole. Their frames were shown.
+-- A read failed. In the bytes that were given is neither a bad block nor the last frame that is asked for, and the next block isn't whole. Their frames were shown.
 pub record IsCut (a : Asked) (pixels : Bool) (before after : Option (List ℕ)) (bytes left : List ℕ) : Type 0 where
   pub given : List ℕ
   pub parts : bytes ≡ given ++ left
@@ -88,7 +88,7 @@ MayMiss a play.ReadFault = ⊤
 MayMiss a play.SinkFault = ⊤
 MayMiss a play.WantMemory = ⊤
 
--- what was written, by the answer: all, what stands before a bad block or a failed read, what is there of a range, or a front
+-- what was written, by the answer: all, what is before a bad block or a failed read, what is there of a range, or a prefix
 abbrev pub Answers : Asked → Bool → Option (List ℕ) → Option (List ℕ) → Result Unit PlayFault → List ℕ → List ℕ → Type 0
 Answers a pixels before after (Ok done) bytes left = IsShown a pixels before after bytes × Leaves a bytes left
 Answers a pixels before after (Err (play.Bad fault block offset)) bytes left = IsBadAt a pixels before after fault block offset bytes

@@ -1,4 +1,7 @@
 //! The frames of a file, shown as it is read.
+//!
+//! The loop keeps one fact, `Showing`: these are the first frames of the file, and what is asked for of them was
+//! written.
 ghost use Rattle.std.specs.Prelude.{◌≡◌, ◌≤◌, ℕ, List, [], Err, IfErr};
 ghost use Rattle.std.specs.declared.option.Option.{Option as Maybe};
 ghost use Rattle.gfx_io.specs.Causes.{Rose};
@@ -34,7 +37,7 @@ pub fn show_frames<S: Source, K: Sink>(
     shown
 }
 
-// The loop only borrows the player: each exit of an owner lets go of it field by field, which takes long to prove.
+// The loop only borrows the player: each exit of an owner drops it field by field, which takes long to prove.
 fn show_opened<S: Source, K: Sink>(
     alloc: Global,
     asked: Asked,

@@ -96,7 +96,7 @@ impl Screen {
     }
 }
 
-/// A printer's fault, handed on.
+/// A printer's fault, passed on.
 fn print_fault(fault: PrintFault) -> PlayFault
     ensures { result ≡ of_printer fault }
 {

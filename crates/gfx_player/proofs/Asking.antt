@@ -56,7 +56,7 @@ last_more a fs f none = last_with a fs f ∙ ap (λ t. t || (is_last a (first_wi
     or_none true = refl
     or_none false = refl
 
--- what is asked for of the first frames stands first
+-- what is asked for of the first frames is first
 pub record InFront (a : Asked) (fs all : List Frame) : Type 0 where
   pub more : List Frame
   pub is : asked_of a all ≡ asked_of a fs ++ more

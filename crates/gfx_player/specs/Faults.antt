@@ -1,4 +1,4 @@
--- Faults of a decoder, handed on.
+-- Faults of a decoder, passed on.
 use Rattle.std.specs.Prelude.{⊤}
 use Rattle.gfx_decode.specs.declared.fault.DecodeFault.{DecodeFault}
 use Rattle.gfx_decode.specs.declared.fault.DecodeFault.TheVariants as decoder

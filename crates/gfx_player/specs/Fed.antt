@@ -17,7 +17,7 @@ history_of fed = events_onto fed []
 abbrev pub file_with : List ℕ → List Whole → List ℕ → List ℕ
 file_with head fed rest = head ++ flat_map (λ w. w.bytes) fed ++ rest
 
--- these blocks were read of a file, and a decoder stands behind them; the blocks are these whatever follows them
+-- these blocks were read of a file, and a decoder follows them; the blocks are these whatever follows them
 pub record IsFed (fed : List Whole) (stage : Stage) (all rest : List ℕ) : Type 0 where
   pub head : List ℕ
   pub header : IsHeader head

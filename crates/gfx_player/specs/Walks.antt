@@ -38,7 +38,7 @@ pub record HasRead (p : Player) (fed : List Whole) (file left : Option (List ℕ
   pub place : IsBehind (length fed) p.decoder
   pub told : IfTold file left (λ bytes rest. IsFed fed p.decoder bytes rest × (p.minor ≡ minor_of bytes))
 
--- a player stands before a block, in a file of its minor version
+-- a player is before a block, in a file of its minor version
 pub record IsAtBlock (p : Player) : Type 0 where
   pub at : Position
   pub place : p.decoder ≡ At p.minor at

@@ -1,4 +1,7 @@
 //! Why a walk through a file ends before its aim.
+//!
+//! Failed writes are in it although the player writes nothing: every caller that writes would need a second type with
+//! the same reasons and one more.
 ghost use Rattle.std.specs.Prelude.{◌≡◌};
 ghost use Rattle.gfx_player.specs.Faults.{of_decoder};
 ghost use Rattle.gfx_player.specs.declared.fault.PlayFault.TheVariants.{SinkFault as NoSink, WantMemory as NoMemory};

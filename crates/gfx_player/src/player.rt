@@ -1,4 +1,8 @@
 //! A walk through a capture file.
+//!
+//! `next_frame` serves who writes lines or digests. A cut needs each block's bytes and fault before it is replayed, so
+//! `next`, `fault_of` and `feed` are public too; a visitor that the player calls could not change its way in the
+//! middle.
 ghost use Rattle.std.specs.Prelude.{◌≡◌, ◌≤◌, ◌<◌, ◌+◌, ◌-◌, ◌^◌, ◌∷◌, ◌++◌, ℕ, List, [], true, length, IfOk, IfErr, IfSome, Some, None, Ok, Err};
 ghost use Rattle.std.specs.declared.option.Option.{Option as Maybe};
 ghost use Rattle.std.specs.Io.KnownBytes.{Consumes, IsAtEnd};
@@ -11,7 +15,7 @@ ghost use Rattle.gfx_model.specs.Blocks.End.{clean};
 ghost use Rattle.gfx_model.specs.History.{is_valid};
 ghost use Rattle.gfx_model.specs.Meaning.{content_fault};
 ghost use Rattle.gfx_decode.specs.Decoding.{Gives, GoesFramed, IsFramedAt, item_of};
-ghost use Rattle.gfx_decode.specs.Reading.{ReadsSome, StopsAt};
+ghost use Rattle.gfx_decode.specs.Reading.{ReadsSome, StopsFraming};
 ghost use Rattle.gfx_decode.specs.Stage.{At};
 
 use crate::PlayFault;
@@ -38,7 +42,7 @@ impl Player {
     ghost use Rattle.gfx_player.specs.Ends.{EndsBehind, IsStopped, StopsBehind};
     ghost use Rattle.gfx_player.specs.Walks.{HasAll, HasRead, HasReplayed, IsAtBlock, IsReadAlike, IsReplayedAlike, Plays, Refuses, Replays, ShowsNext, first_frame_of, next_frame_of, told_of, whole_of};
 
-    /// Reads the header of a file, and stands before its first block.
+    /// Reads the header of a file, and is before its first block.
     pub fn open<S: Source>(alloc: Global, source: &mut S) -> Result<Player, PlayFault>
         ensures replayed { IfOk result (λ p. HasReplayed p []) }
         ensures read { IfOk result (λ p. HasRead p [] (S.left source.old) (S.left source.new)) }
@@ -99,8 +103,8 @@ impl Player {
         ensures reads { ReadsSome (S.left source.old) (S.left source.new) }
         ensures bytes { IfOk result (λ found. IfSome found (λ block. Consumes (S.left source.old) (S.left source.new) block.bytes.now)) }
         ensures end { result ≡ Ok None → IsAtEnd (S.left source.new) }
-        ensures fault { (minor : ℕ) → (at : Position) → self.old.decoder ≡ At minor at
-            → IfErr result (StopsAt minor at (S.left source.old) (S.left source.new)) }
+        ensures framing { (minor : ℕ) → (at : Position) → self.old.decoder ≡ At minor at
+            → IfErr result (StopsFraming at (S.left source.old) (S.left source.new)) }
         ensures kept { IsReplayedAlike self.old self.new }
         ensures after { GoesFramed self.old.decoder result self.new.decoder }
         ensures later { S.faults source.old ≤ S.faults source.new }
@@ -186,7 +190,7 @@ impl Player {
         Ok(None)
     }
 
-    /// Replays a block, as `feed` does, and lets go of it.
+    /// Replays a block, as `feed` does, and drops it.
     fn step(&mut self, raw: Raw<'_>) -> Result<Option<ShownFrame>, PlayFault>
         ensures ok { IfOk result (λ shown. (fed : List Whole) → HasReplayed self.old fed → Replays self.new fed (item_of raw.entry) shown) }
         ensures err { IfErr result (λ why. (fed : List Whole) → HasReplayed self.old fed → Refuses (history_of fed) (item_of raw.entry) why) }

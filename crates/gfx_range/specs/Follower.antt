@@ -18,7 +18,7 @@ use Rattle.gfx_player.specs.declared.fault.PlayFault.{PlayFault}
 use Rattle.gfx_player.specs.declared.fault.PlayFault.TheVariants as play
 use Rattle.gfx_range.specs.declared.follower.Follower.{Follower}
 
--- a follower stands after this history, which has no fault
+-- a follower follows this history, which has no fault
 pub record Follows (f : Follower) (h : List Event) : Type 0 where
   pub valid : is_valid h ≡ true
   pub same : answers f.tracker ≡ view h
@@ -30,17 +30,21 @@ pub record Followed (f : Follower) (h : List Event) (c : Content) (number : Opti
   pub fine : content_fault h c ≡ None
   pub shows : number ≡ option_map (λ f. f.number) (frame_by h c)
 
+-- a follower that follows what it did
+abbrev pub IsSameFollower : Follower → Follower → Type 0
+IsSameFollower old new = (answers new.tracker ≡ answers old.tracker) × (new.first ≡ old.first)
+
 -- the operations of what a block says
 abbrev pub ops_said : View → Content → List Op
 ops_said v skipped = []
 ops_said v (effect thread event) = ops_of v event
 
--- why an effect is not taken: by its rule fault, or for want of memory
+-- why an effect is not taken: by its rule fault, or when out of memory
 abbrev pub RefusesEffect : List Event → Event → ApplyFault → Type 0
 RefusesEffect h e (apply.Rule found) = fault h e ≡ Some found
 RefusesEffect h e apply.WantMemory = ⊤
 
--- why a block is not taken: by its rule fault, or for want of memory
+-- why a block is not taken: by its rule fault, or when out of memory
 abbrev pub Refuses : List Event → Whole → PlayFault → Type 0
 Refuses h w (play.Bad found block offset) = (block ≡ w.number) × (offset ≡ w.offset) × (content_fault h w.content ≡ Some found)
 Refuses h w (play.NoSuchFrame first last) = ⊥

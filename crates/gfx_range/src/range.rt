@@ -1,5 +1,6 @@
 //! A range of blocks, and what it needs of the state before it.
-ghost use Rattle.std.specs.Prelude.{◌≡◌, ◌++◌, ◌∷◌, [], None, List, length, IfOk, IfErr, OnOk};
+ghost use Rattle.std.specs.Prelude.{◌≡◌, ◌++◌, ◌∷◌, [], Err, None, Some, List, ℕ, length, IfOk, IfErr, OnOk, OnErr};
+ghost use Rattle.gfx_types.specs.declared.names.Fault.{Fault};
 ghost use Rattle.gfx_model.specs.Blocks.{Whole};
 ghost use Rattle.gfx_model.specs.Checks.{first_broken};
 ghost use Rattle.gfx_model.specs.Events.{Event, event_of};
@@ -12,7 +13,7 @@ ghost use Rattle.gfx_asked.specs.Accesses.{AreNear};
 ghost use Rattle.gfx_replay.specs.Fed.{broken_by};
 ghost use Rattle.gfx_tracker.specs.Operations.{given_by, ops_of};
 ghost use Rattle.gfx_tracker.specs.Tracker.{answers};
-ghost use Rattle.gfx_range.specs.Follower.{Followed, Follows, Refuses, ops_said};
+ghost use Rattle.gfx_range.specs.Follower.{Followed, Follows, IsSameFollower, Refuses, ops_said};
 ghost use Rattle.gfx_range.specs.Range.{AreSaidNear, IsFresh, IsGathered, IsKept, IsSameNeed, Names, shown_said, accesses_said};
 
 use crate::follower::Follower;
@@ -26,7 +27,7 @@ use gfx_tracker::Tracker;
 use gfx_types::{Block, Effect, Meta, OpList, WantMemory};
 use std::alloc::Global;
 
-/// The blocks of a range as they stand in the file, what they name of the state before the range, and which bytes they
+/// The blocks of a range unchanged in the file, what they name of the state before the range, and which bytes they
 /// show and change.
 #[derive(Drop)]
 pub struct Range {
@@ -48,17 +49,18 @@ impl Range {
         }
     }
 
-    /// Keeps a block that is skipped. For want of memory the range is as it was.
+    /// Keeps a block that is skipped. When out of memory the range is as it was.
     pub fn keep(&mut self, raw: &Raw<'_>) -> Result<(), PlayFault>
         ensures bytes { OnOk result (self.new.blocks.items ≡ self.old.blocks.items ++ raw.now.bytes.now) }
         ensures same { IsSameNeed self.old self.new }
         ensures err { IfErr result (λ why. why ≡ PlayFault.WantMemory) }
+        ensures kept { OnErr result (self.new.blocks.items ≡ self.old.blocks.items) }
     {
         self.blocks.extend_from_slice(raw.bytes)?;
         Ok(())
     }
 
-    /// Lets go of the blocks.
+    /// Drops the blocks.
     pub fn clear(&mut self)
         ensures bytes { self.new.blocks.items ≡ [] }
         ensures same { IsSameNeed self.old self.new }
@@ -67,8 +69,9 @@ impl Range {
     }
 
     /// Takes the next block of the range, behind what the follower follows, where the boundary's tracker stands for what was
-    /// before the range. Answers the number of the frame that the block shows, if it shows one. After an error the range is of no
-    /// use, and after want of memory neither is the follower.
+    /// before the range. Answers the number of the frame that the block shows, if it shows one. A rule that it breaks is told also
+    /// when out of memory, and leaves the follower as it was. After an error the range is of no use, and when out of memory
+    /// neither is the follower.
     pub fn add(
         &mut self,
         alloc: Global,
@@ -78,11 +81,15 @@ impl Range {
     ) -> Result<Option<u64>, PlayFault>
         ensures ok { IfOk result (λ number. (h : List Event) (ws : List Whole) → answers boundary.now ≡ view h → IsGathered self.old h ws → Follows follower.old (events_onto ws h)
             → Followed follower.new (events_onto ws h) (item_of raw.now).content number × IsGathered self.new h (ws ++ item_of raw.now ∷ [])) }
+        ensures rule { (fault : Fault) → broken_by (answers follower.old.tracker) (content_of raw.now.block) ≡ Some fault → result ≡ Err (PlayFault.Bad fault raw.now.number raw.now.offset) }
         ensures err { IfErr result (λ why. (h : List Event) → Follows follower.old h → Refuses h (item_of raw.now) why) }
+        ensures kept { (fault : Fault) → (block offset : ℕ) → result ≡ Err (PlayFault.Bad fault block offset) → IsSameFollower follower.old follower.new }
     {
         let mut ops = OpList::of(Vec::new(alloc));
-        self.show(&follower.tracker, raw)?;
+        // a rule that the block breaks is told first
+        let shown = self.show(&follower.tracker, raw);
         let number = follower.follow(raw, &mut ops)?;
+        shown?;
         self.say(boundary, raw, &ops)?;
         self.keep(raw)?;
         Ok(number)

@@ -134,7 +134,7 @@ module _ (m : ℕ) (desk : TableId) (n : ℕ) (phases : List (List Part)) (table
     pub in-piece : piece ≡ mid.0 ++ after.0
     in-piece = append_cancel_left start piece (mid.0 ++ after.0) (pre.1 ∙ (sym after.1 ∙ (ap (λ z. z ++ after.0) (sym mid.1) ∙ append_assoc start mid.0 after.0)))
 
-    -- all that it made stands in what it had seen
+    -- all that it made is in what it had seen
     pub same-own : events_of t mid.0 ≡ events_of t piece
     same-own = append_cancel_left (events_of t start) (events_of t mid.0) (events_of t piece)
         (sym (events-append t start mid.0) ∙ (ap (events_of t) mid.1 ∙ (own-events (worker t) t (hand_of (worker t)).seen (thread-is t less) refl
@@ -199,7 +199,7 @@ module _ (m : ℕ) (desk : TableId) (n : ℕ) (phases : List (List Part)) (table
         refused = refused;
       }
 
-      -- what its pass was told is told of the front of the log
+      -- what its pass was told is told of the start of the log
       pub faulty-here : (f : Fault) → IsFaulty (hand_of (worker t)).kind (hand_of (worker t)).thread (hand_of (worker t)).seen event f → IsFaulty m t (start ++ mid.0) event f
       faulty-here f is = subst (λ (z : ℕ × ℕ × List Entry). IsFaulty z.0 z.1 z.2 event f) (λ i. (kind-is t less i, thread-is t less i, sym mid.1 i)) is
 

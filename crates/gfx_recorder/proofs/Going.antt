@@ -55,6 +55,7 @@ keeps-through h h₁ h₂ a b = record {
   drawn = b.drawn ∙ a.drawn;
   stage = b.stage;
   before = prefix-through h.seen h₁.seen h₂.seen a.before b.before;
+  known = let x = a.known in let y = b.known in omega arith;
 }
 
 -- what is made after what was made

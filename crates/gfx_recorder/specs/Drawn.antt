@@ -18,7 +18,7 @@ DrewOnce h = (x : ℕ) → times x h.drawn ≤ 1
 abbrev pub with_ids : Hand Entry → List ℕ → Hand Entry
 with_ids h ids = record h { drawn = h.drawn ++ ids }
 
--- the pass drew so many ids, which stand at the end of the table
+-- the pass drew so many ids, which are at the end of the table
 pub record Drew (count : ℕ) (h : Hand Entry) (table : List ℕ) (h' : Hand Entry) (table' : List ℕ) : Type 0 where
   pub ids : List ℕ
   pub count_is : length ids ≡ count
@@ -44,7 +44,7 @@ pub record DrewAt (i : ℕ) (parts : List Part) (table : List ℕ) (w w' : Worke
   -- so it stays when the table grows
   pub ids_are : (more : List ℕ) → map (id_in (table ++ more)) (names_of (lines_in i parts)) ≡ ids
 
--- the workers drew ids for all names that the parts define, which stand at the end of the table
+-- the workers drew ids for all names that the parts define, which are at the end of the table
 pub record AllDrew (parts : List Part) (ws : List Worker) (table : List ℕ) (ws' : List Worker) (table' : List ℕ) : Type 0 where
   pub len : length ws' ≡ length ws
   pub ids : List ℕ

@@ -21,13 +21,13 @@ pub record IsRefusedAt (m : ℕ) (phases : List (List Part)) (log : List Entry) 
   pub at_is : length halted.before ≡ at
   pub faulty : IsFaulty m halted.least halted.before halted.stop.event fault
 
--- or since its block, of the length that is wanted, doesn't fit after the first `long` bytes
+-- or since its block, of the length that is needed, doesn't fit after the first `long` bytes
 pub record IsFullAt (m : ℕ) (phases : List (List Part)) (log : List Entry) (long wanted : ℕ) : Type 0 where
   pub halted : IsHalted m phases log
   pub full : IsFull m halted.least halted.before halted.stop.event long wanted
 
 -- Done: the log matches the script and is valid. Refused and LogFull: it is a run of the script up to a phase, each thread of
--- which with lines left is stopped, and this is the answer to the least of them. Want of memory says nothing
+-- which with lines left is stopped, and this is the answer to the least of them. Out of memory says nothing
 abbrev pub IsOutcome : ℕ → List (List Part) → Outcome → Type 0
 IsOutcome m phases (Done log) = (log.minor ≡ m) × Matches m phases log.entries × (is_valid (history log.entries) ≡ true)
 IsOutcome m phases (Refused line fault at log) = (log.minor ≡ m) × IsRefusedAt m phases log.entries line fault at

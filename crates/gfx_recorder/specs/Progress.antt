@@ -20,7 +20,7 @@ use Rattle.gfx_recorder.specs.Work.{hand_of, Ran}
 abbrev pub MadeOfDrawn : Hand Entry → Type 0
 MadeOfDrawn h = (x : ℕ) → created entry_ids x h.mine ≤ times x h.drawn
 
--- worker i between two phases of a script of version m: it has seen this log, holds nothing, and its ids stand in the table
+-- worker i between two phases of a script of version m: it has seen this log, holds nothing, and its ids are in the table
 pub record IsBetween (m : ℕ) (desk : TableId) (i : ℕ) (log : List Entry) (table : List ℕ) (w : Worker) : Type 0 where
   pub desk_is : desk_of w.pass ≡ desk
   pub thread : (hand_of w).thread ≡ i

@@ -19,7 +19,7 @@ use gfx_script::Phase;
 use std::alloc::{AllocError, Global};
 use std::snapshot::Snapshot;
 
-/// Closes the log. Want of memory of any worker comes before what was answered to the others.
+/// Closes the log. A lack of memory of any worker comes before what was answered to the others.
 pub(crate) fn close(
     alloc: Global,
     capture: Capture,

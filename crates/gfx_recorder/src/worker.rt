@@ -1,4 +1,7 @@
 //! A worker runs the lines of one thread in a phase.
+//!
+//! Recorded commands change nothing that another thread asks about, so they are held and appended together; every
+//! other call is appended at once.
 ghost use Rattle.std.specs.Prelude.{◌≡◌, ◌+◌, ◌<◌, ◌^◌, [], ◌∷◌, length, map, false, IfErr, OnOk};
 ghost use Rattle.gfx_model.specs.Events.{event_of};
 ghost use Rattle.gfx_script_model.specs.Runs.{lines_in};
@@ -31,7 +34,7 @@ const MANY_BYTES: u64 = 1 << 20;
 pub(crate) struct Worker {
     pub pass: Pass,
     pub buffer: ThreadBuffer,
-    /// How many lines of the phase stand in the log.
+    /// How many lines of the phase are in the log.
     pub done: usize,
     pub end: End,
     /// How many lines of the run were put, and how many were answered.
@@ -77,11 +80,11 @@ impl Worker {
         ensures err { IfErr result (λ fault. Stops self.old (calls_in table.now lines.now) fault self.new) }
     {
         'lines: for line in lines {
-            if let Err(fault) = self.run_line(rt, alloc, capture, gate, table, line) {
+            if let Err(fault) = self.run_line(rt, alloc, capture, gate, table, lines, line) {
                 return Err(fault);
             }
         }
-        self.append(rt, capture, gate)
+        self.append(rt, capture, gate, lines)
     }
 
     // Puts the call of the line.
@@ -92,6 +95,7 @@ impl Worker {
         capture: &Capture,
         gate: &G,
         table: &[u64],
+        lines: &[Line],
         line: &Line,
     ) -> Result<(), AppendFault>
         requires ready { IsReady (desk_id capture.now.desk) self.old }
@@ -110,7 +114,7 @@ impl Worker {
             return Err(AppendFault::WantMemory { done: 0 });
         };
         match line.effect(alloc, &used, &defined) {
-            Ok(effect) => self.run_effect(rt, capture, gate, &effect),
+            Ok(effect) => self.run_effect(rt, capture, gate, lines, line, &effect),
             Err(_) => Err(AppendFault::WantMemory { done: 0 }),
         }
     }
@@ -121,6 +125,8 @@ impl Worker {
         rt: &R,
         capture: &Capture,
         gate: &G,
+        lines: &[Line],
+        line: &Line,
         effect: &Effect<'_>,
     ) -> Result<(), AppendFault>
         requires ready { IsReady (desk_id capture.now.desk) self.old }
@@ -133,16 +139,15 @@ impl Worker {
         ensures err { IfErr result (λ fault. Stops self.old (event_of effect.now ∷ []) fault self.new) }
     {
         let alone = !is_recorded(effect);
-        if let Err(fault) = self.append_if(alone, rt, capture, gate) {
+        if let Err(fault) = self.append_if(alone, rt, capture, gate, lines) {
             return Err(fault);
         }
-        self.put = self.put.saturating_add(1);
-        gate.before(self.pass.thread(), self.put);
+        self.put = tell_put(gate, self.pass.thread(), self.put, line);
         if self.buffer.put(effect).is_err() {
             return Err(AppendFault::WantMemory { done: 0 });
         }
         let due = alone || self.holds_much();
-        self.append_if(due, rt, capture, gate)
+        self.append_if(due, rt, capture, gate, lines)
     }
 
     // Whether it holds as much as is appended together.
@@ -159,6 +164,7 @@ impl Worker {
         rt: &R,
         capture: &Capture,
         gate: &G,
+        lines: &[Line],
     ) -> Result<(), AppendFault>
         requires ready { IsReady (desk_id capture.now.desk) self.old }
         requires room { due ≡ false → length self.old.buffer.events < max_events }
@@ -168,18 +174,19 @@ impl Worker {
         ensures err { IfErr result (λ fault. Stops self.old [] fault self.new) }
     {
         if due {
-            self.append(rt, capture, gate)
+            self.append(rt, capture, gate, lines)
         } else {
             Ok(())
         }
     }
 
-    // Appends what is held, and tells the gate of each line.
+    // Appends what is held, and tells the gate of each line of the text.
     fn append<R: Wait, G: Gate>(
         &mut self,
         rt: &R,
         capture: &Capture,
         gate: &G,
+        lines: &[Line],
     ) -> Result<(), AppendFault>
         requires ready { IsReady (desk_id capture.now.desk) self.old }
         requires few { self.old.done + length self.old.buffer.events < 2 ^ 64 }
@@ -192,7 +199,12 @@ impl Worker {
             return Ok(());
         }
         let answer = capture.batch(rt, &mut self.pass, &self.buffer);
-        self.answered = tell_answered(gate, self.pass.thread(), self.answered, held);
+        self.answered = tell_answered(
+            gate,
+            self.pass.thread(),
+            self.answered,
+            lines_from(lines, self.done, held),
+        );
         match answer {
             Ok(_) => {
                 self.done += held as usize;
@@ -207,12 +219,37 @@ impl Worker {
     }
 }
 
-// Tells the gate that so many lines more were answered, and how many they are then.
-fn tell_answered<G: Gate>(gate: &G, thread: u32, answered: u64, count: u32) -> u64 {
-    let mut line = answered;
-    for _ in 0..count {
-        line = line.saturating_add(1);
-        gate.after(thread, line);
+// Tells the gate of the lines that are held back before this one, and that this one is put, where it is one of the text;
+// and how many were put then.
+fn tell_put<G: Gate>(gate: &G, thread: u32, put: u64, line: &Line) -> u64 {
+    let mut number = put;
+    for _ in 0..line.held {
+        number = number.saturating_add(1);
+        gate.before(thread, number);
+        gate.after(thread, number);
     }
-    line
+    if !line.is_fill {
+        number = number.saturating_add(1);
+        gate.before(thread, number);
+    }
+    number
+}
+
+// Tells the gate that these lines were answered, but for fills, and how many were answered then.
+fn tell_answered<G: Gate>(gate: &G, thread: u32, answered: u64, lines: &[Line]) -> u64 {
+    let mut number = answered;
+    for line in lines {
+        number = number.saturating_add(line.held as u64);
+        if !line.is_fill {
+            number = number.saturating_add(1);
+            gate.after(thread, number);
+        }
+    }
+    number
+}
+
+// So many lines from this place on.
+fn lines_from(lines: &[Line], place: usize, count: u32) -> &[Line] {
+    let rest = lines.get(place..).unwrap_or(&[]);
+    rest.get(..count as usize).unwrap_or(rest)
 }

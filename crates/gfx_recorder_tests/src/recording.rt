@@ -66,7 +66,7 @@ fn kept_of(alloc: Global, refused: Option<Refusal>, log: &Log) -> Result<Left, F
     Ok(Left { refused, log })
 }
 
-// The log goes no further: a function that owns one lets go of it at each way out, which takes long to prove.
+// The log goes no further: a function that owns one drops it at each way out, which takes long to prove.
 fn run_script<R: Threads + Wait + Sync, G: Gate + Sync>(
     rt: &R,
     alloc: Global,
@@ -89,7 +89,7 @@ pub(crate) fn record<R: Threads + Wait + Sync, G: Gate + Sync>(
     run(rt, alloc, gate, false, text)
 }
 
-/// The same, with the writes of its threads gathered where that is asked for.
+/// Runs the script, with the writes of its threads gathered where that is asked for.
 pub(crate) fn run<R: Threads + Wait + Sync, G: Gate + Sync>(
     rt: &R,
     alloc: Global,

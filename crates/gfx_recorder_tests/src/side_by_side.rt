@@ -1,6 +1,6 @@
 //! What a gate sees of a recording: threads of a phase run at once, and commands are appended several at a time.
 
-use crate::recording::record;
+use crate::recording::{record, run};
 use gfx_io::Gate;
 use gfx_samples::scripts::{BARRIER, BEGIN, OBJECTS, joined};
 use std::hint::spin_loop;
@@ -16,6 +16,20 @@ surf = vkCreateHeadlessSurfaceEXT instance=one
 thread 1
 other = vkCreateInstance api=4194304
 more = vkCreateHeadlessSurfaceEXT instance=other
+";
+
+/// Five calls, and three writes that are gathered into two fills before the last call.
+const HELD_WRITES: &[u8] = b"\
+phase
+thread 0
+inst = vkCreateInstance api=4194304
+dev = vkCreateDevice instance=inst
+mem = vkAllocateMemory device=dev size=64
+vkMapMemory device=dev memory=mem offset=0 size=64
+write memory=mem offset=0 bytes=61
+write memory=mem offset=1 bytes=62
+write memory=mem offset=9 bytes=63
+vkUnmapMemory device=dev memory=mem
 ";
 
 /// How often a thread looks whether the other came.
@@ -66,6 +80,17 @@ struct Waiting {
     out_of_order: AtomicU64,
 }
 
+impl Waiting {
+    fn new() -> Self {
+        Waiting {
+            put: AtomicU64::new(0),
+            answered: AtomicU64::new(0),
+            most: AtomicU64::new(0),
+            out_of_order: AtomicU64::new(0),
+        }
+    }
+}
+
 impl Gate for Waiting {
     fn before(&self, _: u32, line: u64) {
         if self.put.fetch_add(1, Ordering::SeqCst).wrapping_add(1) != line {
@@ -104,17 +129,23 @@ fn commands_are_appended_256_at_a_time(rt: HostRuntime) -> Result<(), Fail> {
         text.extend_from_slice(BARRIER)?;
     }
     text.extend_from_slice(b"vkEndCommandBuffer cb=cb\n")?;
-    let gate = Waiting {
-        put: AtomicU64::new(0),
-        answered: AtomicU64::new(0),
-        most: AtomicU64::new(0),
-        out_of_order: AtomicU64::new(0),
-    };
+    let gate = Waiting::new();
     let left = record(&rt, rt.alloc(), &gate, text.as_slice())?;
     assert_eq!(rt; left.refused, None);
     assert_eq!(rt; gate.out_of_order.load(Ordering::SeqCst), 0);
     assert_eq!(rt; gate.most.load(Ordering::SeqCst), 256);
     // twelve lines of objects, three up to the begin, the commands and the end
     assert_eq!(rt; gate.answered.load(Ordering::SeqCst), 616);
+    Ok(())
+}
+
+#[test]
+fn held_lines_are_told_and_fills_are_not(rt: HostRuntime) -> Result<(), Fail> {
+    let gate = Waiting::new();
+    let left = run(&rt, rt.alloc(), &gate, true, HELD_WRITES)?;
+    assert_eq!(rt; left.refused, None);
+    assert_eq!(rt; gate.out_of_order.load(Ordering::SeqCst), 0);
+    assert_eq!(rt; gate.put.load(Ordering::SeqCst), 8);
+    assert_eq!(rt; gate.answered.load(Ordering::SeqCst), 8);
     Ok(())
 }

@@ -60,7 +60,7 @@ not_missing All count first last are tells = tells.0
 not_missing (Between low high) count first last are (inl zero, low_is, high_is) = absurd (omega (arith, are.0, zero))
 not_missing (Between low high) count first last are (inr behind, low_is, high_is) = absurd (omega (arith, are.1, behind))
 
--- a run that came to its end and has the frames that are asked for was written, but for want of memory or a failed write
+-- a run that came to its end and has the frames that are asked for was written, but when out of memory or a failed write
 pub done_unstopped : (asked : Asked) (before after : Option (List ℕ)) (count : ℕ) (outcome : Outcome) (result : Result Unit RecordingFault) → IsDone outcome
     → Writes asked before after outcome result → AreFrames asked count → TellsFrames asked count result → (result ≡ Err SinkFault → ⊥) → IsUnstopped result
 done_unstopped asked before after count outcome (Ok done) is w are tells sunk = tt

@@ -113,7 +113,7 @@ IsSafeText gathers asked text =
     (minor : ℕ) × (phases : List (List Part)) × Parses text (parses minor phases) × Safe minor (shown_phases gathers phases)
     × AreFrames asked (presents phases)
 
--- nothing but want of memory stopped the recording
+-- only a lack of memory stopped the recording
 abbrev pub IsUnstopped : Result Unit RecordingFault → Type 0
 IsUnstopped (Ok done) = ⊤
 IsUnstopped (Err WantMemory) = ⊤

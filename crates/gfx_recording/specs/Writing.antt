@@ -25,18 +25,18 @@ IsOrdered (Between first last) = first ≤ last
 abbrev pub MeansHistory : ℕ → List Entry → Type 0
 MeansHistory m log = Means (log_file m log) (frames (history log)) clean
 
--- a whole file was written, or a front of it and a write failed
+-- a whole file was written, or a prefix of it and a write failed
 abbrev pub WritesWhole : Option (List ℕ) → Option (List ℕ) → List ℕ → Result Unit RecordingFault → Type 0
 WritesWhole before after file (Ok done) = Appends before after file
 WritesWhole before after file (Err SinkFault) = AppendsPart before after file
 WritesWhole before after file (Err _) = ⊥
 
--- a whole file was written and then this is answered, or a front of it and a write failed
+-- a whole file was written and then this is answered, or a prefix of it and a write failed
 abbrev pub TookThen : RecordingFault → Option (List ℕ) → Option (List ℕ) → List ℕ → Result Unit RecordingFault → Type 0
 TookThen why before after file (Ok done) = ⊥
 TookThen why before after file (Err fault) = ((fault ≡ why) × Appends before after file) ⊎ ((fault ≡ SinkFault) × AppendsPart before after file)
 
--- the range of the file was written, the file has no such range, or a front of the cut was written
+-- the range of the file was written, the file has no such range, or a prefix of the cut was written
 abbrev pub Cuts : (first last : ℕ) → Option (List ℕ) → Option (List ℕ) → List ℕ → Result Unit RecordingFault → Type 0
 Cuts first last before after file (Ok done) = Keeps first last before after file
 Cuts first last before after file (Err (NoSuchFrame low high)) = (left : List ℕ) × IsWithout first last before after low high file left

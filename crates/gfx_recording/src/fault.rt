@@ -1,4 +1,4 @@
-//! Why a recording ends before its aim.
+//! Faults of recordings.
 use gfx_script::ScriptKind;
 use gfx_types::Fault;
 use thiserror::Error;

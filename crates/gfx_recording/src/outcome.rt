@@ -11,7 +11,7 @@ use gfx_player::Asked;
 use gfx_recorder::Outcome;
 use std::alloc::Global;
 
-/// Writes what a run left, and lets go of it.
+/// Writes what a run left, and drops it.
 pub(crate) fn write_outcome<K: Sink>(
     alloc: Global,
     asked: Asked,

@@ -1,5 +1,6 @@
 -- Rows that are copied, one after another.
-use Rattle.std.proofs.Common.{add-one, ◌≡◌, ℕ, zero, suc, ◌+◌, ◌*◌, ◌<◌, ◌≤◌, false, refl, sym, ap, ◌∙◌, subst, List, [], ◌∷◌, ◌++◌, length, get_or, slice_range, take, flat_map, arith}
+use Rattle.std.proofs.Common.{add-one, ◌≡◌, ℕ, zero, suc, ◌+◌, ◌*◌, ◌<◌, ◌≤◌, ◌||◌, Bool, true, false, refl, sym, ap, ◌∙◌, subst, List, [], ◌∷◌, ◌++◌, length, get_or, slice_range, take, flat_map, arith}
+use Rattle.std.specs.List.{list_any}
 use Rattle.std.proofs.lemmas.List.{take_more, append-nil}
 use Rattle.std.proofs.lemmas.Grind.{flat_map-append}
 use Rattle.std.proofs.lemmas.List.Edits.{length-between, get_or-between}
@@ -28,7 +29,7 @@ first_rows c to source k = rows_copied to c.to_offset c.to_step source c.from_of
 abbrev row : Rows → Place → Place → ℕ → Change
 row c to source k = copy to (c.to_offset + k * c.to_step) source (c.from_offset + k * c.from_step) c.length
 
--- one more row stands before the others
+-- one more row is before the others
 rows_more : (c : Rows) (to source : Place) (k : ℕ) (es : List Change) → onto (first_rows c to source (suc k)) es ≡ row c to source k ∷ onto (first_rows c to source k) es
 rows_more c to source k es =
     ap (λ n. onto (first_rows c to source n) es) (sym (add-one k))
@@ -105,3 +106,17 @@ holds_next first next a b c p q es holds = subst (Holds c) (sym (onto-append fir
 pub flat_map_more : {X Y : Type 0} (f : X → List Y) (xs : List X) (i : ℕ) (x : X) → i < length xs → x ≡ get_or xs i x → flat_map f (take (i + 1) xs) ≡ flat_map f (take i xs) ++ f x
 flat_map_more f xs i x below is =
     ap (flat_map f) (take_more xs i x below ∙ ap (λ y. take i xs ++ y ∷ []) (sym is)) ∙ flat_map-append f (take i xs) (x ∷ []) ∙ ap (λ ys. flat_map f (take i xs) ++ ys) (append-nil (f x))
+
+-- where no element passes, none at a place does
+pub none_at : {X : Type 0} (p : X → Bool) (xs : List X) (i : ℕ) (x : X) → i < length xs → x ≡ get_or xs i x → list_any p xs ≡ false → p x ≡ false
+none_at p [] i x below is none = absurd (omega (arith, below))
+none_at p (y ∷ ys) zero x below is none = ap p is ∙ first (p y) (list_any p ys) none
+  where
+    first : (s t : Bool) → (s || t) ≡ false → s ≡ false
+    first true t none = none
+    first false t none = refl
+none_at p (y ∷ ys) (suc i) x below is none = none_at p ys i x (omega (arith, below)) is (rest (p y) (list_any p ys) none)
+  where
+    rest : (s t : Bool) → (s || t) ≡ false → t ≡ false
+    rest true t none = absurd cc
+    rest false t none = none

@@ -59,7 +59,7 @@ quiet e h none =
 
 -- ---- one event more
 
--- a valid history, an event without a fault after it, and places that stand before and after its operations
+-- a valid history, an event without a fault after it, and places that are before and after its operations
 pub record IsRun (h : List Event) (e : Event) (b c : Bytes) : Type 0 where
   pub valid : is_valid h ≡ true
   pub passes : first_broken (view h) (checks_of e) ≡ None

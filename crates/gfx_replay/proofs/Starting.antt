@@ -1,4 +1,4 @@
--- Nothing stands before the first block.
+-- Nothing is before the first block.
 use Rattle.std.proofs.Common.{◌≡◌, refl, sym, ap, ◌∙◌, [], Some, None, option_map, length}
 use Rattle.gfx_types.specs.declared.op.Place.{Place}
 use Rattle.gfx_types.specs.declared.op.Place.TheVariants as place

@@ -125,7 +125,7 @@ dropped_sound h with d more here k sound is sets set = record {
         let old = was a j p false e in
         ap is_some (sets.others j (other_handle h d sound here a k j is old e)) ∙ sound.there a j old
 
--- nothing stood there
+-- nothing was there
 pub nothing_dropped : (h with : Handles) (here : Place) → h here ≡ None → IsSet h with here None → (at : Place) → with at ≡ h at
 nothing_dropped h with here none set at = by (same_place here at) refl
   where

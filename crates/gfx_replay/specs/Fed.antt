@@ -1,4 +1,4 @@
--- What feeding a block answers, and what stands after it.
+-- What feeding a block answers, and what follows it.
 use Rattle.std.specs.Prelude.{◌≡◌, List, ◌∷◌, Option, Some, None, Result, Ok, Err, IfSome, option_map}
 use Rattle.std.specs.List.{AllByRecursion}
 use Rattle.gfx_types.specs.declared.names.Fault.{Fault}

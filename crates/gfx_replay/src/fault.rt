@@ -1,4 +1,4 @@
-//! Why a block is not taken.
+//! The faults of a block.
 
 use gfx_types::Fault;
 

@@ -1,5 +1,6 @@
 //! The bytes of all places of a replay.
 ghost use Rattle.std.specs.Prelude.{◌≡◌, List, [], ◌∷◌, ℕ, false, Some, None, IsSome, IfOk, OnOk, OnErr, flat_map, length, replicate};
+ghost use Rattle.std.specs.List.{list_any};
 ghost use Rattle.std.specs.Option.{option_map};
 ghost use Rattle.gfx_device.specs.Places.{places};
 ghost use Rattle.gfx_replay.specs.Maps.{IsSame, IsSet};
@@ -38,7 +39,7 @@ impl Places {
         }
     }
 
-    /// Adds a place of `length` zeros. After want of memory all places are as they were.
+    /// Adds a place of `length` zeros. When out of memory all places are as they were.
     pub fn add(&mut self, place: Place, length: u64) -> Result<(), WantMemory>
         requires { bytes_in self.old place ≡ None }
         ensures ok { OnOk result (IsSet (bytes_in self.old) (bytes_in self.new) place (Some (replicate length 0))) }
@@ -59,7 +60,7 @@ impl Places {
         }
     }
 
-    /// Carries out one operation. `given` is what a `PutGiven` puts. After want of memory only the bytes of the place
+    /// Carries out one operation. `given` is what a `PutGiven` puts. When out of memory only the bytes of the place
     /// that it changes are not known.
     pub fn run(&mut self, op: &Op, given: &[u8]) -> Result<(), WantMemory>
         requires { IsWithin (sizes_in self.old) given.now op.now }
@@ -114,12 +115,13 @@ impl Places {
         }
     }
 
-    /// Carries out operations in order. `given` is what a `PutGiven` puts. After want of memory only the bytes of the places that
+    /// Carries out operations in order. `given` is what a `PutGiven` puts. When out of memory only the bytes of the places that
     /// they change are not known.
     pub fn run_all(&mut self, ops: &OpList, given: &[u8]) -> Result<(), WantMemory>
         requires { AreAllWithin (sizes_in self.old) given.now ops.now }
         ensures ok { OnOk result (HoldsMore (flat_map (changes_of_op given.now) ops.now) (bytes_in self.old) (bytes_in self.new)) }
         ensures sizes { IsSame (sizes_in self.old) (sizes_in self.new) }
+        ensures others { (at : Place) → list_any (λ op. is_target op at) ops.now ≡ false → bytes_in self.new at ≡ bytes_in self.old at }
     {
         for op in ops.items() {
             self.run(op, given)?;

@@ -10,7 +10,7 @@ use gfx_tracker::Tracker;
 use gfx_types::{Call, Effect, Format, Place, Present, WantMemory};
 use std::alloc::Global;
 
-/// What the effect shows, where it is a present. The tracker stands before it.
+/// What the effect shows, where it is a present. The tracker is before it.
 pub fn shown_frame(
     alloc: Global,
     tracker: &Tracker,

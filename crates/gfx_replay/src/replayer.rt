@@ -1,4 +1,8 @@
 //! The replay of a capture, block by block.
+//!
+//! A shown frame names places and copies nothing: who prints or digests it reads the place before the next block is
+//! fed. Once memory is refused in the middle of an effect the replayer answers that for good, since the tracker may be
+//! ahead of the bytes.
 ghost use Rattle.std.specs.Prelude.{◌≡◌, List, [], ◌∷◌, true, false, None, Some, Err, IfOk, IsSome};
 ghost use Rattle.gfx_model.specs.Events.{Event, event_of};
 ghost use Rattle.gfx_model.specs.Checks.{first_broken};

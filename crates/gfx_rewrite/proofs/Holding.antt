@@ -32,11 +32,11 @@ held_on before mid after held more new all h on = held_some before mid after (he
 pub held_all : (before mid after : Option (List ℕ)) (held all : List ℕ) → Held before mid held all → Appends mid after held → Appends before after all
 held_all before mid after held all (written, took, is) more = subst (Appends before after) is (appends_then before mid after written held took more)
 
--- or a front of it
+-- or a prefix of it
 pub held_front : (before mid after : Option (List ℕ)) (held all : List ℕ) → Held before mid held all → AppendsPart mid after held → AppendsPart before after all
 held_front before mid after held all (written, took, is) part = subst (AppendsPart before after) is (part_then before mid after written held took part)
 
--- a front of all is all of a front
+-- a prefix of all is all of a prefix
 pub part_held : (before after : Option (List ℕ)) (held all : List ℕ) → Held before after held all → HeldPart before after held all
 part_held before after held all h = (all, [], h, sym (append-nil all))
 
@@ -62,7 +62,7 @@ held_failed before mid after held new all (written, took, is) (count, within, pa
   sym is ∙ ap (λ (xs : List ℕ). written ++ xs) (sym (take-append-drop count held)) ∙ sym (append_assoc written (take count held) (drop count held)),
 )
 
--- of more than is held a front was taken
+-- of more than is held a prefix was taken
 pub part_some : (before mid after : Option (List ℕ)) (held new all : List ℕ) → Held before mid held all → HeldPart mid after new held → HeldPart before after new all
 part_some before mid after held new all (written, took, is) (front, rest, (part, more, split), whole) = (
   written ++ front,

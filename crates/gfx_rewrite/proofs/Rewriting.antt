@@ -66,7 +66,7 @@ good_header : (fed : List Whole) (stage : Stage) (all rest : List ℕ) → IsFed
 good_header fed stage all rest f =
     ap header_fault (f.parts ∙ append_assoc f.head (flat_map (λ w. w.bytes) fed) rest) ∙ header_fault-append f.head (flat_map (λ w. w.bytes) fed ++ rest) f.header
 
--- the blocks that were read are written in front of all
+-- the blocks that were read are written before all
 written_front : (texts : Texts) (fed : List Whole) (stage : Stage) (all rest : List ℕ) → IsFed fed stage all rest
     → rewritten texts all ≡ text_by texts (header_in all) fed ++ texts_of texts (header_in all) (coming stage rest).items
 written_front texts fed stage all rest f =
@@ -75,7 +75,7 @@ written_front texts fed stage all rest f =
 
 -- ---- the blocks so far
 
--- a decoder stands behind these blocks, and their texts were taken or are held
+-- a decoder follows these blocks, and their texts were taken or are held
 pub record Rewriting (texts : Texts) (m : ℕ) (stage : Stage) (before after : Option (List ℕ)) (held all rest : List ℕ) : Type 0 where
   pub fed : List Whole
   pub file : IsFed fed stage all rest
@@ -129,7 +129,7 @@ is_block m (Failed why) raw of block = absurd of
 
 -- ---- how it ends
 
--- what is held of the blocks so far is held of a front of all
+-- what is held of the blocks so far is held of a prefix of all
 front_of : (texts : Texts) (m : ℕ) (stage : Stage) (before after : Option (List ℕ)) (held all rest : List ℕ) → Rewriting texts m stage before after held all rest
     → HeldPart before after held (rewritten texts all)
 front_of texts m stage before after held all rest u =
@@ -207,7 +207,7 @@ stops n texts m stage decoder.ReadFault before after held first old new place to
 stops n texts m stage decoder.WantMemory before after held first old new place told gives stop =
     told_through first old new _ _ _ told gives (λ all left rest u g. front_of texts m stage before after held all left u)
 
--- nothing was written or is held, which is a front of anything
+-- nothing was written or is held, which is a prefix of anything
 pub nothing_held : (taken : Option (List ℕ)) (held all : List ℕ) → held ≡ [] → HeldPart taken taken held all
 nothing_held taken held all none = ([], all, held_first taken held [] none, refl)
 
@@ -241,7 +241,7 @@ header_fails texts header_of all rest bytes old grown new before after is parts 
     (part_more before after new text (texts_of texts (header_in all) (coming (At header_of.minor (start_of header_of)) rest).items)
     (held_failed before before after grown new text (held_first before grown text whole) part gone))
 
--- a front of the text of a block was taken, and a write failed or there was no memory
+-- a prefix of the text of a block was taken, and a write failed or there was no memory
 unwritten : (texts : Texts) (why : PlayFault) (took part : List ℕ → Type 0) (all rest : List ℕ) → IsUnwritten why → part (rewritten texts all) → AnswersBy (rewritten texts) took part (Err why) all rest
 unwritten texts (play.Bad fault block offset) took part all rest why front = absurd why
 unwritten texts (play.NoSuchFrame first last) took part all rest why front = absurd why
@@ -295,7 +295,7 @@ answers_all written (Err play.ReadFault) before mid after held all rest more a =
 answers_all written (Err play.SinkFault) before mid after held all rest more a = part_all before mid after held (written all) a more
 answers_all written (Err play.WantMemory) before mid after held all rest more a = part_all before mid after held (written all) a more
 
--- or a front of it
+-- or a prefix of it
 pub answers_front : (written : List ℕ → List ℕ) (end : Result Unit PlayFault) (before mid after : Option (List ℕ)) (held all rest : List ℕ) → AppendsPart mid after held
     → AnswersBy written (Held before mid held) (HeldPart before mid held) end all rest → AppendsPart before after (written all)
 answers_front written (Ok done) before mid after held all rest part a = held_front before mid after held (written all) a.text part

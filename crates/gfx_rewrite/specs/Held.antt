@@ -6,6 +6,6 @@ use Rattle.std.specs.Io.KnownBytes.{Appends}
 abbrev pub Held : Option (List ℕ) → Option (List ℕ) → List ℕ → List ℕ → Type 0
 Held before after held all = (written : List ℕ) × Appends before after written × (written ++ held ≡ all)
 
--- the same of a front of this
+-- the same of a prefix of this
 abbrev pub HeldPart : Option (List ℕ) → Option (List ℕ) → List ℕ → List ℕ → Type 0
 HeldPart before after held all = (front rest : List ℕ) × Held before after held front × (all ≡ front ++ rest)

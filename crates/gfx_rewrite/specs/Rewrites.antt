@@ -15,7 +15,7 @@ pub record IsDone (written : List ℕ → List ℕ) (took : List ℕ → Type 0)
   pub text : took (written bytes)
   pub read : left ≡ []
 
--- the file has a bad block, and what is written of what stands before it was taken
+-- the file has a bad block, and what is written of what is before it was taken
 pub record IsBadAt (written : List ℕ → List ℕ) (took : List ℕ → Type 0) (fault : Fault) (block offset : ℕ) (bytes : List ℕ) : Type 0 where
   pub end : (blocks_of bytes).end ≡ bad fault block offset
   pub text : took (written bytes)
@@ -26,11 +26,11 @@ pub record IsCut (written : List ℕ → List ℕ) (took part : List ℕ → Typ
   pub parts : bytes ≡ given ++ left
   pub cut : IsUnfinished (blocks_of given).items given
   pub text : took (written given)
-  -- which is a front of what is written of all
+  -- which is a prefix of what is written of all
   pub front : part (written bytes)
 
 -- What was taken, by the answer: all that is written of a file, what is written before the end of the file, or a part of that.
--- `took` says that all of a text was taken, and `part` that a front of it was.
+-- `took` says that all of a text was taken, and `part` that a prefix of it was.
 abbrev pub AnswersBy : (written : List ℕ → List ℕ) (took part : List ℕ → Type 0) → Result Unit PlayFault → List ℕ → List ℕ → Type 0
 AnswersBy written took part (Ok done) bytes left = IsDone written took bytes left
 AnswersBy written took part (Err (play.Bad fault block offset)) bytes left = IsBadAt written took fault block offset bytes
@@ -39,7 +39,7 @@ AnswersBy written took part (Err play.ReadFault) bytes left = IsCut written took
 AnswersBy written took part (Err play.SinkFault) bytes left = part (written bytes)
 AnswersBy written took part (Err play.WantMemory) bytes left = part (written bytes)
 
--- what was written, by the answer: all that is written of a file, what is written before the end of the file, or a front of that
+-- what was written, by the answer: all that is written of a file, what is written before the end of the file, or a prefix of that
 abbrev pub Answers : (written : List ℕ → List ℕ) → Option (List ℕ) → Option (List ℕ) → Result Unit PlayFault → List ℕ → List ℕ → Type 0
 Answers written before after result bytes left = AnswersBy written (Appends before after) (AppendsPart before after) result bytes left
 

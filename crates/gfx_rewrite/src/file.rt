@@ -37,7 +37,7 @@ pub fn rewrite<W: Rewriter, S: Source, K: Sink>(
     end
 }
 
-/// The same, but the end is held back.
+/// Writes a file anew, and holds back the end that makes no whole piece.
 fn rewrite_held<W: Rewriter, S: Source, K: Sink>(
     alloc: Global,
     way: &W,
@@ -65,7 +65,7 @@ fn rewrite_held<W: Rewriter, S: Source, K: Sink>(
     Ok(())
 }
 
-/// Takes the text of a block, and lets go of the block.
+/// Takes the text of a block, and drops the block.
 fn put_block<W: Rewriter, K: Sink>(
     way: &W,
     minor: u32,

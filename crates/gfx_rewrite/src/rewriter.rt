@@ -1,4 +1,6 @@
 //! What is written of a header and of blocks.
+//!
+//! `Same` says that a block stays unchanged, so that a long block is not copied.
 ghost use Rattle.std.specs.Prelude.{◌≡◌, ◌≤◌, ◌⊎◌, ◌+◌, ◌*◌, ◌++◌, take, IfOk, OnOk, OnErr};
 ghost use Rattle.gfx_grammar.specs.Framing.{IsBlock};
 ghost use Rattle.gfx_blocks.specs.Payloads.{content_of};
@@ -9,7 +11,7 @@ use gfx_blocks::Header;
 use gfx_decode::{MOST_HEADER, Raw};
 use gfx_types::WantMemory;
 
-/// Whether a block is written as it stands, or as it was appended.
+/// Whether a block is written unchanged, or as it was appended.
 #[derive(Clone, Copy, Debug, PartialEq, Eq)]
 pub enum Written {
     Same,
@@ -24,7 +26,7 @@ pub trait Rewriter {
     /// The texts of both.
     ghost texts: { Self → Texts };
 
-    /// Appends the text of a header, whose bytes stand at the front.
+    /// Appends the text of a header, whose bytes are at the start.
     fn put_header(
         &self,
         header: Header,

@@ -8,7 +8,7 @@ use std::alloc::Global;
 use std::process::Abort;
 use std::test::Fail;
 
-/// What stands in the place of a fault where there is none.
+/// What is in the place of a fault where there is none.
 pub const TAKEN: &str = "taken";
 
 /// An effect after a history without a fault, and the fault that it has, if any. The history is that of the named ones,
@@ -70,7 +70,7 @@ fn first_refused(
     refused_by(rt, &mut tracker, &mut ops, effects)
 }
 
-// The loop only borrows the tracker: each exit of an owner lets go of it field by field, which takes long to prove.
+// The loop only borrows the tracker: each exit of an owner drops it field by field, which takes long to prove.
 fn refused_by(
     rt: &impl Abort,
     tracker: &mut Tracker,

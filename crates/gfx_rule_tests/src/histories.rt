@@ -117,7 +117,7 @@ fn push_history(text: &mut String, history: &str) -> Result<(), Fail> {
     Ok(())
 }
 
-/// Appends effects that stand side by side, a line each.
+/// Appends effects that are side by side, a line each.
 pub fn push_effects(text: &mut String, effects: &str) -> Result<(), Fail> {
     for effect in effects.split("; ") {
         push_line(text, effect)?;

@@ -18,7 +18,7 @@ pub submit_begins : (o : Option (ℕ × ℕ)) (s : ℕ) → IfSome o (λ place. 
 submit_begins None s h = tt
 submit_begins (Some place) s h = (h, λ e. omega arith)
 
--- a place that is not the first which differs stands before it
+-- a place that is not the first which differs is before it
 pub stands_before : (o : Option (ℕ × ℕ)) (s a : ℕ) → IfSome o (λ place. (s ≤ place.0) × (s ≡ place.0 → a ≤ place.1)) → o ≢ Some (s, a)
     → IfSome o (λ place. (s ≤ place.0) × (s ≡ place.0 → a < place.1))
 stands_before None s a h not_here = tt

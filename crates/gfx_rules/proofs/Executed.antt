@@ -232,6 +232,6 @@ a_fence v submits fence a b is e y =
     ∙ sym (split v v.signalled v.layout (flat_map turns_of_submit submits) (signal fence ∷ []))
     ∙ ap (λ t. turns_fault v v.signalled v.layout (flat_map turns_of_submit submits ++ (if t then [] else signal fence ∷ []))) (sym is)
 
--- the turns of a submit that stands at a place
+-- the turns of a submit that is at a place
 pub sits : (submits : List Submit) (i : ℕ) (s : Submit) → i < length submits → s ≡ get_or submits i s → turns_at submits i ≡ turns_of_submit s
 sits submits i s h is = ap (λ o. option_map_or turns_of_submit o []) (slice_get_read submits (length submits) i s refl h is)

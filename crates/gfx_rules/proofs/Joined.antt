@@ -18,11 +18,11 @@ pub appended : (v : View) (xs ys : List Check) → first_broken v (xs ++ ys) ≡
 appended v [] ys = refl
 appended v (x ∷ xs) ys = ap (first (broken v x)) (appended v xs ys) ∙ sym (first_assoc (broken v x) (first_broken v xs) (first_broken v ys))
 
--- the front of a row is broken
+-- the prefix of a row is broken
 pub stops : (v : View) (front more row : List Check) (f : Fault) → Some f ≡ first_broken v front → row ≡ front ++ more → Some f ≡ first_broken v row
 stops v front more row f e is = ap (λ x. first x (first_broken v more)) e ∙ sym (appended v front more) ∙ ap (first_broken v) (sym is)
 
--- the front of a row is whole
+-- the prefix of a row is whole
 pub goes_on : (v : View) (front more row : List Check) (o : Option Fault) → None ≡ first_broken v front → o ≡ first_broken v more
     → row ≡ front ++ more → o ≡ first_broken v row
 goes_on v front more row o e f is =
@@ -58,7 +58,7 @@ pub passes_at : {X : Type 0} (v : View) (checks : X → List Check) (xs : List X
     → None ≡ first_broken v (checks x) → first_broken v (flat_map checks (drop i xs)) ≡ all → first_broken v (flat_map checks (drop (i + 1) xs)) ≡ all
 passes_at v checks xs i x all h is e left = passes v checks xs i x all h (e ∙ ap (λ y. first_broken v (checks y)) is) left
 
--- a front that stands before three, four or five more parts
+-- a prefix that is before three, four or five more parts
 pub three_more : (f a b c : List Check) → ((f ++ a) ++ b) ++ c ≡ f ++ ((a ++ b) ++ c)
 three_more f a b c = ap (λ xs. xs ++ c) (append_assoc f a b) ∙ append_assoc f (a ++ b) c
 

@@ -1,4 +1,4 @@
--- Numbers that stand in one of two lists.
+-- Numbers that are in one of two lists.
 use Rattle.std.proofs.Common.{◌≡◌, ℕ, Bool, ◌==◌, ◌||◌, true, false, List, [], ◌∷◌, ◌++◌, refl, ap, ◌∙◌}
 use Rattle.gfx_model.specs.Checks.{is_among}
 

@@ -1,4 +1,4 @@
--- Where a call may stand.
+-- Where a call may occur.
 use Rattle.std.proofs.Common.{◌≡◌, [], ◌∷◌, refl, if◌then◌else◌}
 use Rattle.gfx_types.specs.declared.call.Call.{Call}
 use Rattle.gfx_types.specs.declared.call.Call.TheVariants as call

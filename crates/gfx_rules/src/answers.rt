@@ -1,4 +1,8 @@
 //! The answers that checks read, given by any type.
+//!
+//! Rules know no crate that keeps the answers, so a change of what is kept proves no rule again. The device of an
+//! object and what a command asks of a resource are one question each, since the checks would else look up one id up
+//! to six times.
 
 ghost use Rattle.std.specs.Prelude.{◌≡◌, is_some, IfSome, option_map, slice_get};
 ghost use Rattle.gfx_model.specs.Questions.{range_of};

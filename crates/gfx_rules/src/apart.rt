@@ -1,4 +1,7 @@
-//! Whether the numbers of a long list stand once.
+//! Whether the numbers of a long list occur once.
+//!
+//! The rules have no answer for a lack of memory, so a long list is sorted on the stack, in a function of its own that
+//! is never inlined.
 
 ghost use Rattle.std.specs.Prelude.{◌≡◌, ◌≤◌, true, length};
 ghost use Rattle.gfx_model.specs.Limits.{max_list_length};
@@ -9,7 +12,7 @@ use gfx_types::limits::MAX_LIST_LENGTH;
 // Lists of so many numbers are searched about as fast as a place for sorting is made.
 const FEW: usize = 512;
 
-/// Whether the numbers of a long list are known to stand once, which takes n log n for any order of them. Of a list of few
+/// Whether the numbers of a long list are known to occur once, which takes n log n for any order of them. Of a list of few
 /// numbers, or of more than a list may have, nothing is known.
 pub fn stand_apart(ids: &[u64]) -> bool
     ensures { result ≡ true → words.is_distinct ids.now ≡ true }
@@ -17,7 +20,7 @@ pub fn stand_apart(ids: &[u64]) -> bool
     FEW < ids.len() && ids.len() <= MAX_LIST_LENGTH && are_apart(ids)
 }
 
-// Whether the numbers of a list stand once. Its frame has room for all of them, so it is kept out of its callers'.
+// Whether the numbers of a list occur once. Its frame has room for all of them, so it is kept out of its callers'.
 #[inline(never)]
 fn are_apart(ids: &[u64]) -> bool
     requires { length ids.now ≤ max_list_length }

@@ -62,7 +62,7 @@ fn may_fill<A: Answers>(answers: &A, memory: u64) -> bool
     answers.section().is_some() || answers.mapped(memory).is_some()
 }
 
-/// A row for each check: what holds unless it is broken, and its fault. What has faults of its own stands behind them.
+/// A row for each check: what holds unless it is broken, and its fault. What has faults of its own follows them.
 macro_rules! held {
     ($check:expr, { $($other:tt)* }; $($name:ident $(($($field:ident),+))? if $holds:expr, $fault:ident;)+) => {
         match $check {

@@ -1,4 +1,4 @@
-//! Whether numbers of a call stand once.
+//! Whether numbers of a call occur once.
 
 ghost use Rattle.std.specs.Prelude.{◌≡◌, ◌&&◌, ◌++◌, map, flat_map};
 ghost use Rattle.gfx_model.specs.Checks as words;
@@ -17,7 +17,7 @@ fn is_submitted(submits: &[Submit], id: u64) -> bool
     }
 }
 
-/// Whether these ids stand once, also among the command buffers of later submits.
+/// Whether these ids occur once, also among the command buffers of later submits.
 #[tactic(auto, using(crate::proofs::Once::among_append))]
 fn are_once(ids: &[u64], later: &[Submit]) -> bool
     ensures { (result && words.is_distinct (flat_map (λ s. s.cbs) later.now)) ≡ words.is_distinct (ids.now ++ flat_map (λ s. s.cbs) later.now) }
@@ -31,7 +31,7 @@ fn are_once(ids: &[u64], later: &[Submit]) -> bool
     }
 }
 
-/// Whether each command buffer of these submits stands once.
+/// Whether each command buffer of these submits occurs once.
 pub fn are_submitted_once(submits: &[Submit]) -> bool
     ensures { result ≡ words.is_distinct (flat_map (λ s. s.cbs) submits.now) }
 {
@@ -48,7 +48,7 @@ fn is_presented(presents: &[Present], id: u64) -> bool
     presents.iter().map(|p| p.swapchain).any(|x| x == id)
 }
 
-/// Whether each swapchain of these presents stands once.
+/// Whether each swapchain of these presents occurs once.
 pub fn are_presented_once(presents: &[Present]) -> bool
     ensures { result ≡ words.is_distinct (map (λ p. p.swapchain) presents.now) }
 {

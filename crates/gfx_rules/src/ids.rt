@@ -1,4 +1,4 @@
-//! Ids of objects that a call makes, and ids that stand in a list of a call.
+//! Ids of objects that a call makes, and ids that are in a list of a call.
 
 ghost use Rattle.std.specs.Prelude.{◌≡◌, ◌<◌, true, false, List, ℕ, []};
 ghost use Rattle.gfx_model.specs.Views as views;
@@ -10,14 +10,14 @@ use crate::checks::{first, unless};
 use gfx_types::Fault;
 use gfx_types::limits::MAX_LIVE_OBJECTS;
 
-/// Whether an id stands in a list.
+/// Whether an id is in a list.
 pub fn is_among(ids: &[u64], id: u64) -> bool
     ensures { result ≡ words.is_among id ids.now }
 {
     ids.iter().any(|x| *x == id)
 }
 
-/// Whether an id stands in a list all of whose numbers lie between two. Where it is known that it doesn't, no number is
+/// Whether an id is in a list all of whose numbers lie between two. Where it is known that it doesn't, no number is
 /// looked at.
 pub fn is_among_between(ids: &[u64], is_apart: bool, least: u64, greatest: u64, id: u64) -> bool
     requires apart { is_apart ≡ true → words.is_among id ids.now ≡ false }
@@ -39,7 +39,7 @@ pub fn new_fault<A: Answers>(answers: &A, id: u64) -> Option<Fault>
     new_fault_behind(answers, id, false)
 }
 
-/// 15 if the id is 0; 12 if it was used before, or stands earlier in the call.
+/// 15 if the id is 0; 12 if it was used before, or is earlier in the call.
 fn new_fault_behind<A: Answers>(answers: &A, id: u64, is_earlier: bool) -> Option<Fault>
     ensures { (earlier : List ℕ) → is_earlier ≡ words.is_among id earlier → result ≡ words.new_fault (A.view answers.now) earlier id }
 {
@@ -69,7 +69,7 @@ pub fn queue_fault<A: Answers>(answers: &A, device: u64, queue: u64) -> Option<F
     }
 }
 
-/// The fault of the first id that is not new. It takes n log n for ids in any order that stand once.
+/// The fault of the first id that is not new. It takes n log n for ids in any order that occur once.
 pub fn new_faults<A: Answers>(answers: &A, ids: &[u64]) -> Option<Fault>
     ensures { result ≡ words.new_faults (A.view answers.now) [] ids.now }
 {

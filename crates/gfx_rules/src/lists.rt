@@ -68,7 +68,7 @@ pub fn near_each<A: Answers>(answers: &A, kind: Kind, other: u64, ids: &[u64]) -
     first(live, near_all(answers, other, ids))
 }
 
-/// 11 unless it is a live command buffer that stands nowhere earlier.
+/// 11 unless it is a live command buffer that is nowhere earlier.
 fn once_fault<A: Answers>(answers: &A, id: u64, is_earlier: bool) -> Option<Fault>
     ensures { result ≡ words.first_broken (A.view answers.now) (words.Check.live kind.CommandBuffer id ∷ words.Check.must NotLive (not is_earlier) ∷ []) }
 {
@@ -81,7 +81,7 @@ fn once_fault<A: Answers>(answers: &A, id: u64, is_earlier: bool) -> Option<Faul
     )
 }
 
-/// The fault of the first id that is no live command buffer, or stands twice. It takes n log n for ids in any order that stand once.
+/// The fault of the first id that is no live command buffer, or occurs twice. It takes n log n for ids in any order that occur once.
 pub fn live_once<A: Answers>(answers: &A, ids: &[u64]) -> Option<Fault>
     ensures { result ≡ words.first_broken (A.view answers.now) (table.live_once kind.CommandBuffer [] ids.now) }
 {

@@ -1,4 +1,4 @@
-//! Where an effect may stand: before, in or behind the state section.
+//! Where an effect may occur: before, in or behind the state section.
 
 ghost use Rattle.std.specs.Prelude.{◌≡◌};
 ghost use Rattle.gfx_model.specs.Events.{event_of, event_of_call, event_of_meta};
@@ -11,7 +11,7 @@ use crate::broken::first_broken;
 use crate::checks::{Check, unless};
 use gfx_types::{Call, Effect, Fault, Meta};
 
-/// Whether a call may stand in the state section.
+/// Whether a call may occur in the state section.
 #[tactic(auto, unfolding(gfx_model::specs::Spelling::id_of))]
 fn may_stand_inside(call: &Call<'_>) -> bool
     ensures { result ≡ stands_in_section (id_of (event_of_call call.now)) }
@@ -68,7 +68,7 @@ fn may_stand_inside(call: &Call<'_>) -> bool
     }
 }
 
-/// 10 for a call in the section that may not stand there.
+/// 10 for a call in the section that may not are there.
 #[tactic(auto, using(crate::proofs::Standing::of_call), unfolding(gfx_model::specs::Checks::broken))]
 fn call_place<A: Answers>(answers: &A, call: &Call<'_>) -> Option<Fault>
     ensures { result ≡ words.first_broken (A.view answers.now) (place_of (event_of_call call.now)) }
@@ -92,7 +92,7 @@ fn meta_place<A: Answers>(answers: &A, meta: &Meta<'_>) -> Option<Fault>
     }
 }
 
-/// 10 unless the effect may stand here.
+/// 10 unless the effect may occur here.
 #[tactic(auto, unfolding(gfx_model::specs::Table::place_of))]
 pub fn place_fault<A: Answers>(answers: &A, effect: &Effect<'_>) -> Option<Fault>
     ensures { result ≡ words.first_broken (A.view answers.now) (place_of (event_of effect.now)) }

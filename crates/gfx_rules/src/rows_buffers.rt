@@ -17,7 +17,7 @@ use crate::resources::{command_fault, live_fault};
 use gfx_types::limits::MAX_LIST_LENGTH;
 use gfx_types::{Fault, Kind};
 
-/// The front of calls that make or free command buffers of a pool.
+/// The prefix of calls that make or free command buffers of a pool.
 fn pool_front<A: Answers>(answers: &A, device: u64, pool: u64, count: usize) -> Option<Fault>
     ensures { result ≡ words.first_broken (A.view answers.now) (table.of_device kind.Pool device pool ++ table.value (nat_le 1 count) ∷ table.limit (nat_le count max_list_length) ∷ []) }
 {

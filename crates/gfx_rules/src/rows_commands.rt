@@ -34,7 +34,7 @@ pub fn cmd_pipeline_barrier<A: Answers>(answers: &A, cb: u64, barriers: &[Barrie
     }
 }
 
-/// The front of CmdFillBuffer, up to its range.
+/// The prefix of CmdFillBuffer, up to its range.
 #[tactic(auto, using(crate::proofs::Joined::must_is))]
 fn fill_front<A: Answers>(
     answers: &A,
@@ -79,7 +79,7 @@ pub fn cmd_fill_buffer<A: Answers>(
     fill_fits(answers, cb, buffer, offset, size, word)
 }
 
-/// The front of CmdUpdateBuffer, all but the room for it.
+/// The prefix of CmdUpdateBuffer, all but the room for it.
 #[tactic(auto, using(crate::proofs::Joined::must_is))]
 fn update_front<A: Answers>(
     answers: &A,
@@ -129,7 +129,7 @@ fn uint_fault<A: Answers>(answers: &A, image: u64) -> Option<Fault>
     unless(is_uint, Fault::FormatDiffers)
 }
 
-/// The front of CmdClearColorImage, all but the room for it.
+/// The prefix of CmdClearColorImage, all but the room for it.
 #[tactic(auto, using(crate::proofs::Joined::must_is))]
 fn clear_front<A: Answers>(answers: &A, cb: u64, image: u64, layout: u32) -> Option<Fault>
     ensures { result ≡ words.first_broken (A.view answers.now) (words.Check.live kind.CommandBuffer cb ∷ words.Check.recording cb ∷ table.res kind.Image cb image

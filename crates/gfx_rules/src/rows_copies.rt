@@ -90,7 +90,7 @@ fn texel_fault<A: Answers>(answers: &A, source: u64, target: u64) -> Option<Faul
     unless(is_same, Fault::FormatDiffers)
 }
 
-/// The front of CmdCopyImage, up to its regions.
+/// The prefix of CmdCopyImage, up to its regions.
 fn images_front<A: Answers>(
     answers: &A,
     cb: u64,
@@ -162,7 +162,7 @@ pub fn cmd_copy_image<A: Answers>(
     }
 }
 
-/// The front of a copy between a buffer and an image, up to its regions. The image's layout is the usual one, or GENERAL.
+/// The prefix of a copy between a buffer and an image, up to its regions. The image's layout is the usual one, or GENERAL.
 fn mixed_front<A: Answers>(
     answers: &A,
     cb: u64,

@@ -21,7 +21,7 @@ use crate::turns::waits_fault;
 use gfx_types::limits::{MAX_PRESENTS, MAX_SEMAPHORES, MAX_SUBMITS};
 use gfx_types::{Fault, Kind, Present, Submit, Submits};
 
-/// The front of QueueSubmit: how many of each there are.
+/// The prefix of QueueSubmit: how many of each there are.
 fn submit_front<A: Answers>(answers: &A, queue: u64, submits: &[Submit]) -> Option<Fault>
     ensures { result ≡ words.first_broken (A.view answers.now) (words.Check.live kind.Queue queue ∷ table.between 0 max_submits submits.now
         ++ flat_map table.submit_lengths submits.now) }
@@ -76,7 +76,7 @@ pub fn device_wait_idle<A: Answers>(answers: &A, device: u64) -> Option<Fault>
     first_broken(answers, &[Check::Live(Kind::Device, device)])
 }
 
-/// The front of QueuePresentKHR: its waits, and how many presents there are.
+/// The prefix of QueuePresentKHR: its waits, and how many presents there are.
 fn present_front<A: Answers>(answers: &A, queue: u64, waits: &[u64], count: usize) -> Option<Fault>
     ensures { result ≡ words.first_broken (A.view answers.now) (words.Check.live kind.Queue queue ∷ table.between 0 max_semaphores waits.now
         ++ table.near_each kind.Semaphore queue waits.now ++ table.value (nat_le 1 count) ∷ table.limit (nat_le count max_presents) ∷ []) }

@@ -16,7 +16,7 @@ use crate::values::{both, is_either};
 use gfx_types::limits::MAX_LIST_LENGTH;
 use gfx_types::{Fault, Kind};
 
-/// The front of calls on fences of a device.
+/// The prefix of calls on fences of a device.
 fn fences_fault<A: Answers>(answers: &A, device: u64, fences: &[u64]) -> Option<Fault>
     ensures { result ≡ words.first_broken (A.view answers.now) (words.Check.live kind.Device device ∷ table.between 1 max_list_length fences.now
         ++ (map (words.Check.live kind.Fence) fences.now ++ map (λ f. words.Check.of f device) fences.now)) }

@@ -88,7 +88,7 @@ pub fn get_swapchain_images<A: Answers>(
     )
 }
 
-/// The front of AcquireNextImageKHR, up to what it signals.
+/// The prefix of AcquireNextImageKHR, up to what it signals.
 fn acquire_front<A: Answers>(
     answers: &A,
     device: u64,

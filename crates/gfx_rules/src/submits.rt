@@ -84,7 +84,7 @@ pub fn near_fence<A: Answers>(answers: &A, queue: u64, fence: u64) -> Option<Fau
     }
 }
 
-/// 21 unless each command buffer stands once, and then the fault of the first turn that has one.
+/// 21 unless each command buffer occurs once, and then the fault of the first turn that has one.
 pub fn order_fault<A: Answers>(answers: &A, submits: &Submits, fence: u64) -> Option<Fault>
     requires { AreFew submits.now }
     ensures { result ≡ words.first_broken (A.view answers.now) (words.Check.must CommandState (words.is_distinct (flat_map (λ s. s.cbs) submits.now))

@@ -83,7 +83,7 @@ module _ (m n : ℕ) (ids : ℕ → ℕ) (phases : List (List Part)) (log : List
   pub all-whole : AllWhole ids p.before p.pieces
   all-whole = whole-for-all n ids p.before (p.phase ∷ p.rest) p.pieces p.piece (subst (ArePhases n) p.are apart) p.whole (λ t above. ap (events_of t) (sym p.cut) ∙ p.foreign t above)
 
-  -- a front of the piece has first lines of each thread
+  -- a prefix of the piece has first lines of each thread
   pub firsts : (front rest : List Entry) → p.piece ≡ front ++ rest → HasFirst ids p.phase front
   firsts front rest cut t = elim (cases_lt t n) [
     | inl less ↦ prefix-calls ids (lines t) (events_of t front) (events_of t rest ++ calls_of ids (drop (p.done t) (lines t)))
@@ -94,7 +94,7 @@ module _ (m n : ℕ) (ids : ℕ → ℕ) (phases : List (List Part)) (log : List
       nothing : events_of t front ≡ [] → events_of t front ≡ calls_of ids (take (length (events_of t front)) (lines t))
       nothing e = e ∙ sym (ap (λ (z : List Event). calls_of ids (take (length z) (lines t))) e)
 
-  -- a front of the log that reaches into the last piece is a run
+  -- a prefix of the log that reaches into the last piece is a run
   abbrev pub run-of : (l front rest : List Entry) → l ≡ start ++ front → p.piece ≡ front ++ rest → Run m false phases l phase-number
   run-of l front rest is cut = record {
     ids = ids;

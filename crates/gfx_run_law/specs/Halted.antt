@@ -14,7 +14,7 @@ pub record AreNewIds (m : ℕ) (log : List Entry) (xs : List ℕ) : Type 0 where
   pub distinct : IsTrue (is_distinct xs)
   pub unused : IsTrue (list_all (λ x. not ((view (history log)).used x)) xs)
 
--- thread t made its first calls of the last piece, and the next one is refused after a front of the log which has them all
+-- thread t made its first calls of the last piece, and the next one is refused after a prefix of the log which has them all
 pub record IsHeld (m : ℕ) (ids : ℕ → ℕ) (start piece : List Entry) (t : ℕ) (lines : List Line) (done : ℕ) : Type 0 where
   pub line : Line
   pub next : slice_get lines done ≡ Some line

@@ -28,7 +28,7 @@ abbrev pub ArePhases : ℕ → List (List Part) → Type 0
 ArePhases n [] = Unit {0}
 ArePhases n (phase ∷ phases) = AreApart phase × ((t : ℕ) → n ≤ t → has_thread t phase ≡ false) × ArePhases n phases
 
--- the log is what n threads made in the first phases, and all lines of these stand in it
+-- the log is what n threads made in the first phases, and all lines of these are in it
 pub record IsWhole (m n : ℕ) (ids : ℕ → ℕ) (phases : List (List Part)) (log : List Entry) : Type 0 where
   pub pieces : List (List Entry)
   pub whole : AreWhole n ids phases pieces

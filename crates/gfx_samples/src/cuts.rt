@@ -44,14 +44,14 @@ fn append_all(alloc: Global, parts: &[&[&str]], file: &mut Vec<u8>) -> Result<()
     Ok(())
 }
 
-/// The file of the first of three frames, and of what stands behind it.
+/// The file of the first of three frames, and of what follows it.
 pub fn first_cut(alloc: Global, behind: &[&[&str]]) -> Result<Vec<u8>, Fail> {
     let mut file = cut_file(alloc, 1, &[], &[&ONE_FRAME])?;
     append_all(alloc, behind, &mut file)?;
     Ok(file)
 }
 
-/// The file of the state behind the first or the second of three frames, and of what stands behind it.
+/// The file of the state behind the first or the second of three frames, and of what follows it.
 pub fn later_cut(alloc: Global, number: u8, behind: &[&[&str]]) -> Result<Vec<u8>, Fail> {
     let section = [
         &ONE_FRAME[..4],

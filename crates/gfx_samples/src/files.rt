@@ -133,7 +133,7 @@ pub fn three_frames(alloc: Global) -> Result<Vec<u8>, Fail> {
     Ok(file)
 }
 
-/// The file with these bytes from a place on, in the stead of those that stand there.
+/// The file with these bytes from a place on, in the stead of those that are there.
 pub fn with_bytes(mut file: Vec<u8>, at: usize, bytes: &[u8]) -> Vec<u8> {
     for (index, byte) in bytes.iter().enumerate() {
         if let Some(old) = file.get_mut(at.saturating_add(index)) {

@@ -16,7 +16,7 @@ use std::test::Fail;
 /// The layout in which an image is presented.
 const PRESENTED: u32 = 1_000_001_002;
 
-/// The image of a capture, its memory, and its buffer over the front of the memory, which begins with these bytes.
+/// The image of a capture, its memory, and its buffer over the start of the memory, which begins with these bytes.
 #[derive(Clone, Copy)]
 pub struct Scene<'a> {
     pub format: u32,
@@ -54,7 +54,7 @@ impl Made {
         Ok(Made { alloc, bytes })
     }
 
-    /// All that stands before the commands of a scene but the first, which makes the image a target.
+    /// All that is before the commands of a scene but the first, which makes the image a target.
     pub fn of(alloc: Global, scene: Scene<'_>) -> Result<Self, Fail>
         requires { length scene.bytes.now ≤ 65536 }
     {
@@ -158,7 +158,7 @@ impl Made {
         }))
     }
 
-    /// A buffer 9 over the front of the memory.
+    /// A buffer 9 over the start of the memory.
     fn buffer(&mut self, size: u64, usage: u32) -> Result<(), Fail> {
         self.call(Call::CreateBuffer {
             device: 3,
@@ -201,7 +201,7 @@ impl Made {
         self.call(Call::CmdPipelineBarrier { cb: 11, barriers })
     }
 
-    /// A copy of the front of the buffer to an image of this size.
+    /// A copy of the start of the buffer to an image of this size.
     pub fn copy_to_image(&mut self, width: u32, height: u32) -> Result<(), Fail> {
         let region = MixedRegion {
             offset: 0,
@@ -244,7 +244,7 @@ impl Made {
         })
     }
 
-    /// An update of the front of the buffer.
+    /// An update of the start of the buffer.
     pub fn update(&mut self, bytes: &[u8]) -> Result<(), Fail>
         requires { length bytes.now ≤ 131072 }
     {
@@ -314,7 +314,7 @@ impl Made {
         })
     }
 
-    /// The same frame once more.
+    /// Shows the frame once more.
     pub fn show_again(&mut self) -> Result<(), Fail> {
         let fences = Ids::of(vec![in self.alloc; 7]?);
         self.call(Call::ResetFences { device: 3, fences })?;

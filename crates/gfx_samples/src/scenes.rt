@@ -16,7 +16,7 @@ pub fn all(alloc: Global) -> Result<[Made; 5], Fail> {
     ])
 }
 
-/// The front of a buffer goes up in it, and then down again.
+/// The prefix of a buffer goes up in it, and then down again.
 pub fn copied(alloc: Global) -> Result<Made, Fail> {
     let scene = Scene {
         width: 8,

@@ -65,7 +65,7 @@ pub fn used() -> [&'static str; 7] {
     ]
 }
 
-/// The file of three frames, with these blocks in frame 1 before its image is acquired, and at the fronts of frames 2 and 3.
+/// The file of three frames, with these blocks in frame 1 before its image is acquired, and at the starts of frames 2 and 3.
 fn with_more(
     alloc: Global,
     first: &[&str],

@@ -169,7 +169,7 @@ module _ (at : Place) (r : Reading) (tokens : List (List ℕ)) (seen : Event) (p
   outcome : form_outcome at.number (reading_of r) (stated_form r.minor tokens) ≡ add_statement at.number is.event (reading_of r) (reading_of r).phases
   outcome = stated_gives f at.number (reading_of r) tokens seen is
 
-  -- it stands under no thread
+  -- it is under no thread
   pub stands_outside : is_in_thread r.stage ≡ false → is_staged r.stage r.phases.items r.parts.items r.lines.items ≡ true
       → form_outcome at.number (reading_of r) (stated_form r.minor tokens) ≡ refuses structure
   stands_outside h staged = outcome ∙ under_none at.number is.event r h staged

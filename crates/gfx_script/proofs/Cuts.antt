@@ -35,7 +35,7 @@ not_found p xs e = by (nat_lt (position_or_len p xs) (length xs)) refl e
 
 -- ---- lines
 
--- how many bytes stand before the first line feed
+-- how many bytes are before the first line feed
 abbrev to_feed : List ℕ → ℕ
 to_feed text = position_or_len (λ c. c == 10) text
 
@@ -84,11 +84,11 @@ line_last (c ∷ cs) e some = record { lines = feed_none c cs (not_found (λ c. 
 
 -- ---- tokens
 
--- a space in front says nothing
+-- a space at the start says nothing
 space_first : (c : ℕ) (cs : List ℕ) → (c == 32) ≡ true → tokens_of (c ∷ cs) ≡ tokens_of cs
 space_first c cs e = ap (filter (λ t. not (is_empty t))) (slice_split-cons_yes (λ (d : ℕ). d == 32) c cs e)
 
--- how many spaces stand in front
+-- how many spaces are first
 abbrev to_word : List ℕ → ℕ
 to_word text = position_or_len (λ c. not (c == 32)) text
 
@@ -112,7 +112,7 @@ no_words text h = spaces_first text ∙ ap tokens_of (nothing text (to_word text
     nothing (x ∷ xs) zero l = absurd (omega arith)
     nothing (x ∷ xs) (suc n) l = nothing xs n (omega arith)
 
--- how many bytes stand before the first space
+-- how many bytes are before the first space
 abbrev to_space : List ℕ → ℕ
 to_space text = position_or_len (λ c. c == 32) text
 
@@ -140,7 +140,7 @@ split_none (c ∷ cs) h = by (c == 32) h (split_none cs)
     by true l more = absurd (omega arith)
     by false l more = ap (onto_first c) (more (omega arith))
 
--- a word in front is the first token
+-- a word at the start is the first token
 word_first : (text : List ℕ) (e : ℕ) → 1 ≤ e → e ≡ to_space text → e < length text → tokens_of text ≡ take e text ∷ tokens_of (drop (e + 1) text)
 word_first [] e one is l = absurd (omega arith)
 word_first (c ∷ cs) zero one is l = absurd (omega arith)
@@ -152,7 +152,7 @@ word_first (c ∷ cs) (suc e) one is l =
 word_last : (c : ℕ) (cs : List ℕ) → length (c ∷ cs) ≤ to_space (c ∷ cs) → tokens_of (c ∷ cs) ≡ (c ∷ cs) ∷ []
 word_last c cs h = ap (filter (λ t. not (is_empty t))) (split_none (c ∷ cs) h)
 
--- the text behind the spaces in front begins with another byte
+-- the text behind the spaces at the start begins with another byte
 pub record BeginsWord (text : List ℕ) : Type 0 where
   pub first : ℕ
   pub behind : List ℕ
@@ -168,7 +168,7 @@ word_begins (c ∷ cs) h = by (c == 32) refl h (word_begins cs)
     by true e l more = subst BeginsWord (sym (drop_one (to_word cs) c cs)) (more (omega arith))
     by false e l more = record { first = c; behind = cs; is = refl; no_space = e }
 
--- a word in front takes a byte at least
+-- a word at the start takes a byte at least
 some_byte : (text : List ℕ) → BeginsWord text → 1 ≤ to_space text
 some_byte text w = subst (λ (z : List ℕ). 1 ≤ to_space z) (sym w.is) (by (w.first == 32) w.no_space)
   where

@@ -105,7 +105,7 @@ pub place-within : (names : List Defined) (places : BTreeMap Key ℕ) (text : Li
 place-within names places text i are name h =
     let w = number-within all names text (i + 1) (are.placed all text name ∙ ap (allowed_at all names) h) in omega (arith, w.1)
 
--- the definitions in front are as they were
+-- the definitions first are as they were
 front_same : (names : List Defined) (d : Defined) (i : ℕ) → i < length names → get_or (names ++ d ∷ []) i nothing_defined ≡ get_or names i nothing_defined
 front_same [] d i l = absurd (omega arith)
 front_same (n ∷ names) d zero l = refl

@@ -82,7 +82,7 @@ any_part : (n : ℕ) (parts : List Part) → list_any (λ p. p.thread == n) (map
 any_part n [] = refl
 any_part n (p ∷ ps) = ap (λ b. (p.thread == n) || b) (any_part n ps)
 
--- the thread stood in the phase where it ended, or where it is read
+-- the thread was in the phase where it ended, or where it is read
 pub stood_is : (n : ℕ) (r : Reading) (ended here : Bool) → ended ≡ list_any (λ (p : Part). p.thread == n) r.parts.items → here ≡ list_any (λ p. p.thread == n) (open_part r.stage r.lines.items)
     → (ended || here) ≡ thread_stood n r
 stood_is n r ended here e o =

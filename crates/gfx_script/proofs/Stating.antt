@@ -99,7 +99,7 @@ module _ (phase thread : ℕ) (names : List Defined) where
 no_comma : (c : ℕ) → is_letter_or_digit c ≡ true → nat_eq c 44 ≡ false
 no_comma c h = grind (arith, nat_tests, h)
 
--- a name in front of a comma is the first part
+-- a name before a comma is the first part
 split_name : (word rest : List ℕ) → list_all is_letter_or_digit word ≡ true → slice_split (λ c. nat_eq c 44) (word ++ 44 ∷ rest) ≡ word ∷ slice_split (λ c. nat_eq c 44) rest
 split_name [] rest h = refl
 split_name (c ∷ cs) rest h =
@@ -144,7 +144,7 @@ long_token (c ∷ d ∷ cs) rest h = both (nat_eq c 61)
     both true = refl
     both false = refl
 
--- nothing stands apart of a statement that defines nothing
+-- nothing is written apart of a statement that defines nothing
 none_apart : (word : List ℕ) (fs : List Named) → list_all (λ f. is_name f.name) fs ≡ true
     → (apart_of (word ∷ map (field_text name_of) (filter (λ f. not (is_made f.value)) fs))).0 ≡ []
 none_apart word [] h = refl
@@ -163,7 +163,7 @@ defining_texts : (ks : List ℕ) (word : List ℕ) (fs : List Named) → AllByRe
 defining_texts [] word fs fits h = ap made_texts (none_apart word fs h)
 defining_texts (k ∷ ks) word fs fits h = split_names k ks fits
 
--- the texts that stand apart are the names that the statement defines
+-- the texts that are written apart are the names that the statement defines
 pub made_names : (m : ℕ) (tokens : List (List ℕ)) (e : Event) → IsStatement m tokens e → made_texts (apart_of tokens).0 ≡ map name_of (defines_of m e)
 unfolding defines_of statement_tokens
 made_names m tokens e h =

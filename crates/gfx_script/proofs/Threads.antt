@@ -57,7 +57,7 @@ two a b first = by (is_digit a) refl (is_digit b) refl (nat_eq a 48) first
 more_than_none : (n : ℕ) → nat_eq (suc n) 0 ≡ false
 more_than_none n = grind (arith, nat_tests)
 
--- a zero in front
+-- a zero before it
 zero_first : (a b : ℕ) (ds : List ℕ) → nat_eq a 48 ≡ true → number_in 64 (a ∷ b ∷ ds) ≡ None
 unfolding number_in is_number_text
 zero_first a b ds h = by (all_ascii_digits (a ∷ b ∷ ds)) (nat_eq a 48) h (nat_eq (length (b ∷ ds)) 0) (more_than_none (length ds))

@@ -25,7 +25,7 @@ any_mapped : (n : ℕ) (parts : List script.Part) → list_any (λ p. p.thread =
 any_mapped n [] = refl
 any_mapped n (p ∷ ps) = ap (λ b. (p.thread == n) || b) (any_mapped n ps)
 
--- a thread stood in a phase, in either order
+-- a thread was in a phase, in either order
 pub stood_in_order : (n : ℕ) (parts : List script.Part) → has_thread n (phase_in_order parts) ≡ list_any (λ p. p.thread == n) parts
 stood_in_order n parts = any_turned (λ p. p.thread == n) (map part_in_order parts) ∙ any_mapped n parts
 

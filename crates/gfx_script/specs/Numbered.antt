@@ -39,7 +39,7 @@ PutsPlace key place before after = (other : Key) → get key_cmp after other ≡
 abbrev pub is_taken : List Defined → List ℕ → Bool
 is_taken names text = is_known names (λ d. true) text
 
--- one of these names is defined already, or stands twice
+-- one of these names is defined already, or occurs twice
 abbrev pub clashes : List Defined → List (List ℕ) → Bool
 clashes names texts = list_any (is_taken names) texts || repeats texts
 

@@ -5,7 +5,7 @@ use Rattle.gfx_model.specs.Events.{Event}
 use Rattle.gfx_script_model.specs.Ids.{uses_of, defines_of, map_ids}
 use Rattle.gfx_script.specs.declared.supply.Supply.{Supply}
 
--- a record took its ids from the front
+-- a record took its ids from the prefix
 pub record TakesNamed {X : Type 0} (named : X → List ℕ) (blank : X → X) (before : X) (ids : List ℕ) (after : X) (left : List ℕ) : Type 0 where
   pub front : ids ≡ named after ++ left
   pub as_many : length (named after) ≡ length (named before)

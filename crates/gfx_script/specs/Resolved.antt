@@ -44,7 +44,7 @@ statement_by s m tokens = behind_by s m (apart_of tokens).0 (apart_of tokens).1
 abbrev pub seen_by : (phase thread : ℕ) → List Defined → ℕ → List (List ℕ) → Option Event
 seen_by phase thread names m tokens = statement_by (renumbered (number_for phase thread names) named) m tokens
 
--- the texts that stand apart, between their commas
+-- the texts that are written apart, between their commas
 abbrev pub made_texts : List (List ℕ) → List (List ℕ)
 made_texts [] = []
 made_texts (t ∷ ts) = slice_split (λ c. c == 44) t

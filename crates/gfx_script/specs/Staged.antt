@@ -4,7 +4,7 @@ use Rattle.gfx_script_model.specs.Statements.{is_empty}
 use Rattle.gfx_script.specs.declared.reading.Stage.{Stage}
 use Rattle.gfx_script.specs.declared.reading.Stage.TheVariants.{NoPhase, InPhase, InThread}
 
--- no phase ended before the first, no thread before the first of a phase, and no line stands under no thread
+-- no phase ended before the first, no thread before the first of a phase, and no line is under no thread
 abbrev pub is_staged : {X Y Z : Type 0} → Stage → List X → List Y → List Z → Bool
 is_staged NoPhase phases parts lines = is_empty phases && is_empty parts && is_empty lines
 is_staged InPhase phases parts lines = is_empty parts && is_empty lines

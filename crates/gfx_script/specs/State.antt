@@ -42,7 +42,7 @@ reading_of r = record { minor = r.minor; phases = in_order (read_phases r); name
 abbrev pub stated_form : ℕ → List (List ℕ) → Option Form
 stated_form m tokens = read_statement m tokens >>= λ e. Some (states e)
 
--- the thread stood in the phase that is read
+-- the thread was in the phase that is read
 abbrev pub thread_stood : ℕ → Reading → Bool
 thread_stood thread r = list_any (λ p. p.thread == thread) (map part_of r.parts.items ++ open_part r.stage r.lines.items)
 
@@ -57,7 +57,7 @@ pub record SameNames (before after : Reading) : Type 0 where
   pub minor : after.minor ≡ before.minor
   pub names : after.names ≡ before.names
 
--- the thread that is read stands with the others, and has no more lines
+-- the thread that is read is with the others, and has no more lines
 pub record EndsPart (before after : Reading) : Type 0 where
   pub same : SameNames before after
   pub stage : after.stage ≡ before.stage
@@ -65,7 +65,7 @@ pub record EndsPart (before after : Reading) : Type 0 where
   pub parts : map part_of after.parts.items ≡ map part_of before.parts.items ++ open_part before.stage before.lines.items
   pub lines : after.lines.items ≡ []
 
--- the phase that is read stands with the others, and has no more threads
+-- the phase that is read is with the others, and has no more threads
 pub record EndsPhase (before after : Reading) : Type 0 where
   pub same : SameNames before after
   pub stage : after.stage ≡ before.stage
@@ -77,7 +77,7 @@ pub record EndsPhase (before after : Reading) : Type 0 where
 abbrev pub ParsesAs : List ℕ → Parsed → Type 0
 ParsesAs text parsed = Parses text parsed × ((other : Parsed) → Parses text other → other ≡ parsed)
 
--- the script that a text parses to, or its first line with a fault; want of memory says nothing of the text
+-- the script that a text parses to, or its first line with a fault; out of memory says nothing of the text
 abbrev pub IsParsed : List ℕ → Result Script ScriptFault → Type 0
 IsParsed text (Ok script) = ParsesAs text (parses script.minor (phases_of script.phases))
 IsParsed text (Err (Bad line kind)) = ParsesAs text (fails line (kind_of kind))

@@ -21,7 +21,7 @@ use gfx_types::Effect;
 use std::alloc::{AllocError, Global};
 
 impl<'t> Reading<'t> {
-    /// A statement stands under a thread; its names are known, and what it defines is new.
+    /// A statement is under a thread; its names are known, and what it defines is new.
     pub(crate) fn add_statement(
         &mut self,
         alloc: Global,
@@ -39,7 +39,7 @@ impl<'t> Reading<'t> {
         }
     }
 
-    // A call or write that was read stands under a thread; its names are known, and what it defines is new.
+    // A call or write that was read is under a thread; its names are known, and what it defines is new.
     fn add_effect(
         &mut self,
         alloc: Global,
@@ -79,7 +79,7 @@ fn read_at<'r>(
     read_statement(alloc, &resolver, at.minor, tokens, room)
 }
 
-// The words that stand apart in a statement.
+// The words that are written apart in a statement.
 fn made_words<'t>(alloc: Global, tokens: &[&'t [u8]]) -> Result<Vec<&'t [u8]>, AllocError>
     ensures { IfOk result (λ words. map (λ t. t.now) words.items ≡ made_texts (apart_of (map (λ t. t.now) tokens.now)).0) }
 {

@@ -6,7 +6,7 @@ use crate::kind::ScriptKind;
 use std::alloc::AllocError;
 use thiserror::Error;
 
-/// Why a text gives no script: its first line with a fault, or want of memory. Lines are numbered from 1.
+/// Why a text gives no script: its first line with a fault, or a lack of memory. Lines are numbered from 1.
 #[derive(Clone, Copy, Debug, PartialEq, Eq, Error)]
 pub enum ScriptFault {
     #[error("bad script line {line}: {kind}")]

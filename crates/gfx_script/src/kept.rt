@@ -124,7 +124,7 @@ impl Kept {
         }
     }
 
-    /// The same once more.
+    /// A copy of the fields.
     pub(crate) fn copy(&self, alloc: Global) -> Result<Self, AllocError>
         ensures { IfOk result (λ kept. (kept.minor ≡ self.now.minor) × (kept.call ≡ self.now.call) × (kept.fields.items ≡ self.now.fields.items)) }
     {

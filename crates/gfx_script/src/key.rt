@@ -30,7 +30,7 @@ impl Key {
     }
 }
 
-// The first eight letters as a number, and what stands behind them.
+// The first eight letters as a number, and what follows them.
 fn pack(letters: &[u8]) -> (u64, &[u8])
     ensures number { result.0 ≡ packed 0 (take 8 letters.now) }
     ensures behind { result.1.now ≡ drop 8 letters.now }

@@ -1,17 +1,24 @@
 //! Lines of scripts.
+//!
+//! A line keeps the fields of its call as a block spells them, with numbers of names for ids, and is decoded with
+//! other ids: a call borrows its bytes.
 ghost use Rattle.std.specs.Prelude.{◌≡◌, length, IfOk, IsTrue};
 ghost use Rattle.gfx_script_model.specs.Ids.{uses_of, defines_of};
 ghost use Rattle.gfx_script.specs.Kept.{event_in, is_version};
 
 use crate::kept::Kept;
 use gfx_types::{Effect, Ids, WantMemory};
-use std::alloc::{AllocError, Global};
+use std::alloc::Global;
 
 /// A line with a call or a write: its number, counted from 1, and the numbers of the names that it defines and uses, in
 /// the order of its fields. In `uses` a 0 stands for no object.
 #[derive(Debug, Drop)]
 pub struct Line {
     pub number: u32,
+    /// How many lines of the text are held back just before this one.
+    pub held: u32,
+    /// Whether it writes what was held, and is no line of the text.
+    pub is_fill: bool,
     pub defines: Ids,
     pub uses: Ids,
     pub(crate) call: Kept,
@@ -45,6 +52,8 @@ impl Line {
         let call = Kept::of(alloc, minor, effect)?;
         Ok(Line {
             number,
+            held: 0,
+            is_fill: false,
             defines,
             uses,
             call,
@@ -72,8 +81,8 @@ impl Line {
         self.call.event(alloc)
     }
 
-    /// The same line once more.
-    pub fn copy(&self, alloc: Global) -> Result<Self, AllocError>
+    /// A copy of the line.
+    pub fn copy(&self, alloc: Global) -> Result<Self, WantMemory>
         ensures { IfOk result (λ line. line_of line ≡ line_of self.now) }
     {
         let defines = Vec::from_slice(alloc, self.defines.items())?;
@@ -81,6 +90,8 @@ impl Line {
         let call = self.call.copy(alloc)?;
         Ok(Line {
             number: self.number,
+            held: self.held,
+            is_fill: self.is_fill,
             defines: Ids::of(defines),
             uses: Ids::of(uses),
             call,

@@ -3,7 +3,7 @@ ghost use Rattle.std.specs.Prelude.{◌≡◌, ◌==◌, [], MatchOption};
 ghost use Rattle.std.specs.List.{position};
 ghost use Rattle.gfx_script.specs.Cuts.{IsFirstLine};
 
-/// The first line of a text, without its line feed, and what stands behind it. None where nothing is left.
+/// The first line of a text, without its line feed, and what follows it. None where nothing is left.
 pub(crate) fn first_line(text: &[u8]) -> Option<(&[u8], &[u8])>
     ensures { MatchOption result (text.now ≡ []) (λ cut. IsFirstLine text.now cut.0.now cut.1.now) }
 {

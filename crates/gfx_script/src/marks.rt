@@ -1,4 +1,7 @@
 //! The fields of calls by their marks, lent by a call, with other ids.
+//!
+//! Ids are taken down and exchanged by types: a mark for each field with ids, and one trait. Numbers and bytes have no
+//! mark, so nothing is to be proved of them.
 ghost use Rattle.std.specs.Prelude.{◌≡◌, ◌≤◌, [], ◌∷◌, ◌++◌, List, ℕ, zero, length, map, IfOk, OnOk};
 ghost use Rattle.gfx_script.specs.Puts.{Takes};
 
@@ -38,7 +41,7 @@ pub(crate) trait PutIds {
     /// The ids that it makes, in order.
     ghost made: { Self → List ℕ };
 
-    /// The same of one that is its own.
+    /// The ids that an owned field makes, in order.
     ghost out_named: { Self.Out → List ℕ };
 
     ghost out_made: { Self.Out → List ℕ };

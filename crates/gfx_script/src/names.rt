@@ -1,4 +1,7 @@
 //! The names that a script defines.
+//!
+//! Names are found by an ordered map. A text can be made whose names all have one hash, and then a map by hashes
+//! compares each name with all others.
 ghost use Rattle.std.specs.Prelude.{◌≡◌, ◌<◌, ◌^◌, ℕ, List, [], true, length, Some, None, IfOk, OnErr, IsTrue, unwrap_or};
 ghost use Rattle.gfx_script_model.specs.Names.{is_name};
 ghost use Rattle.gfx_script_model.specs.Scripts.{number_of, may_use};

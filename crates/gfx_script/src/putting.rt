@@ -23,7 +23,7 @@ macro_rules! marked {
     ($field:ident: $mark:ident $(, $($behind:tt)*)?) => { marked!($($($behind)*)?) };
 }
 
-/// The same fields of a call of one's own, as a pattern.
+/// The fields of an owned call that have ids or records, as a pattern.
 macro_rules! owned {
     () => { _ };
     ($field:ident: wide $(, $($behind:tt)*)?) => { owned!($($($behind)*)?) };
@@ -40,7 +40,7 @@ macro_rules! value {
     ($field:ident $mark:ident) => { $field };
 }
 
-/// The section of this name, handed on.
+/// The section of this name, passed on.
 macro_rules! section {
     (devices $rows:ident $to:tt; devices { $($row:tt)* } $($others:tt)*) => { $rows! { $to $($row)* } };
     (memory $rows:ident $to:tt; memory { $($row:tt)* } $($others:tt)*) => { $rows! { $to $($row)* } };

@@ -151,7 +151,7 @@ impl<'t> Reading<'t> {
         }
     }
 
-    // The version stands first or not at all.
+    // The version is first or not at all.
     fn set_version(&mut self) -> Result<(), LineFault>
         ensures { GivesOutcome (set_version (reading_of self.old)) (reading_of self.new) result }
     {
@@ -171,7 +171,7 @@ impl<'t> Reading<'t> {
         Ok(())
     }
 
-    // A thread begins, which stands once in a phase.
+    // A thread begins, which occurs once in a phase.
     fn begin_thread(&mut self, alloc: Global, thread: u32) -> Result<(), LineFault>
         ensures { GivesOutcome (begin_thread thread (reading_of self.old) (reading_of self.old).phases) (reading_of self.new) result }
     {
@@ -186,7 +186,7 @@ impl<'t> Reading<'t> {
         Ok(())
     }
 
-    // Whether the thread stood in the phase that is read.
+    // Whether the thread was in the phase that is read.
     fn has_thread(&self, thread: u32) -> bool
         ensures { result ≡ thread_stood thread self.now }
     {

@@ -1,4 +1,6 @@
 //! The numbers of the names that a line may use.
+//!
+//! A name that a line may not use is read as a number that no name has, since a bad line is to be answered first.
 ghost use Rattle.std.specs.Prelude.{◌≡◌, true};
 ghost use Rattle.gfx_text_grammar.specs.Styles.{named};
 ghost use Rattle.gfx_text.specs.Renumbered.{renumbered};

@@ -1,4 +1,4 @@
-//! Ids that are handed out in order.
+//! Ids that are given out in order.
 
 /// Ids that are left for the fields of a call: those that it names, and those that it makes.
 #[derive(Clone, Copy)]

@@ -6,7 +6,7 @@ ghost use Rattle.gfx_script.specs.Cuts.{IsFirstToken};
 
 use std::alloc::{AllocError, Global};
 
-/// What stands between the spaces of a line, in order.
+/// What is between the spaces of a line, in order.
 pub(crate) fn tokens<'t>(alloc: Global, line: &'t [u8]) -> Result<Vec<&'t [u8]>, AllocError>
     ensures { IfOk result (λ tokens. map (λ t. t.now) tokens.items ≡ tokens_of line.now) }
 {
@@ -19,7 +19,7 @@ pub(crate) fn tokens<'t>(alloc: Global, line: &'t [u8]) -> Result<Vec<&'t [u8]>,
     Ok(tokens)
 }
 
-// The first token, and what stands behind it.
+// The first token, and what follows it.
 fn first_token(line: &[u8]) -> Option<(&[u8], &[u8])>
     ensures { MatchOption result (tokens_of line.now ≡ []) (λ cut. IsFirstToken line.now cut.0.now cut.1.now) }
 {

@@ -58,8 +58,8 @@ pub(crate) fn parts<'t>(alloc: Global, token: &'t [u8]) -> Result<Vec<&'t [u8]>,
     token.split(|byte| *byte == b',').collect(alloc)
 }
 
-/// Defines names in this phase by this thread, and tells their numbers; NameTaken where one is defined already, or stands
-/// twice.
+/// Defines names in this phase by this thread, and tells their numbers; NameTaken where one is defined already, or occurs
+/// twice. After a fault the first of them are defined.
 pub(crate) fn define_all<'t>(
     alloc: Global,
     names: &mut Names<'t>,

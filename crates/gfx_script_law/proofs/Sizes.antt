@@ -110,7 +110,7 @@ module _ (show : ℕ → List ℕ) where
   submits-each [] = omega arith
   submits-each (s ∷ ss) = let r = submits-each ss in let a = submit-size s in let b = size-append (submit_fields s) (flat_map submit_fields ss) in omega arith
 
-  -- a value that stands in its field
+  -- a value that is in its field
   value-size : (v : Value) → is_made v ≡ false → size (value_fields v) ≤ 8 * length (value_text show v) + 8
   value-size (names n) h = let b : size (value_fields (names n)) ≡ 8 = refl in omega arith
   value-size (makes n) h = absurd cc
@@ -136,7 +136,7 @@ module _ (show : ℕ → List ℕ) where
       let a = submits-each ss in let b = joined-long (map (submit_text show) ss) in let c = list-long (map (submit_text show) ss) in
       let d = size-append (Field.u32 (length ss) ∷ []) (flat_map submit_fields ss) in let e : size (Field.u32 (length ss) ∷ []) ≡ 4 = refl in omega arith
 
--- a value whose ids stand apart
+-- a value whose ids are written apart
 made-size : (v : Value) → ValueFits named_ids v → is_made v ≡ true → size (value_fields v) ≤ 12 * length (made_by v)
 made-size (makes n) fits h = let b : size (value_fields (makes n)) ≡ 8 = refl in omega arith
 made-size (makes_each xs) fits h =
@@ -158,7 +158,7 @@ spelled-cons : (f : Named) (fs : List Named) → spelled_by (f ∷ fs) ≡ value
 spelled-cons f [] = sym (append-nil (value_fields f.value))
 spelled-cons f (g ∷ fs) = refl
 
--- the texts of the fields that don't stand apart
+-- the texts of the fields that don't are written apart
 abbrev pub shown : List Named → List (List ℕ)
 shown fs = map (field_text name_of) (filter (λ f. not (is_made f.value)) fs)
 

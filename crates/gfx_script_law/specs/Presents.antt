@@ -1,4 +1,4 @@
--- The presents of a script, and how many calls of a kind stand in what is recorded of it.
+-- The presents of a script, and how many calls of a kind are in what is recorded of it.
 use Rattle.std.specs.Prelude.{◌≡◌, ℕ, Bool, true, false, List, filter, length}
 use Rattle.std.specs.List.{AllByRecursion}
 use Rattle.gfx_model.specs.Events.{Event}

@@ -47,7 +47,7 @@ field_text show f = f.name ++ codes "=" ++ value_text show f.value
 -- ---- which fields have a text
 
 -- How ids are written: the text of an id, which ids have one, and which have one in a field that may name none. What a call
--- creates may stand apart from its fields, left of them.
+-- creates may occur apart from its fields, left of them.
 pub record IdStyle : Type 0 where
   pub show : ℕ → List ℕ
   pub is_id : ℕ → Bool
@@ -72,7 +72,7 @@ ListFits fits xs = (length xs < 2 ^ 32) × AllByRecursion fits xs
 abbrev pub SubmitFits : IdStyle → Submit → Type 0
 SubmitFits s x = ListFits (IdFits s) x.waits × (ListFits (IdFits s) x.cbs × ListFits (IdFits s) x.signals)
 
--- the value has a text: its ids do, and its numbers, bytes and lists fit; what stands apart is at least one id
+-- the value has a text: its ids do, and its numbers, bytes and lists fit; what is written apart is at least one id
 abbrev pub ValueFits : IdStyle → Value → Type 0
 ValueFits s (names n) = IdFits s n
 ValueFits s (makes n) = IdFits s n

@@ -13,7 +13,7 @@ abbrev pub atom_ids : Atom → List ℕ
 atom_ids (an_id n) = n ∷ []
 atom_ids _ = []
 
--- the ids that a value names; 0 may stand for none
+-- the ids that a value names; 0 may mean none
 abbrev pub named_by : Value → List ℕ
 named_by (names n) = n ∷ []
 named_by (maybe n) = n ∷ []

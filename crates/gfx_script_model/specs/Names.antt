@@ -35,6 +35,6 @@ name_of n = if n == 0 then codes "0" else digits_within 32 n
 abbrev pub is_code : ℕ → Bool
 is_code n = is_name (name_of n) && code (name_of n) == n
 
--- in a script each id is a name, and the names of what a call creates stand apart from its fields
+-- in a script each id is a name, and the names of what a call creates are written apart from its fields
 abbrev pub named_ids : IdStyle
 named_ids = record { show = name_of; is_id = is_code; is_maybe = λ n. n == 0 || is_code n; apart = true }

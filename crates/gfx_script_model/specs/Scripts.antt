@@ -56,7 +56,7 @@ may_use phase thread d = nat_lt d.phase phase || d.thread == thread
 abbrev pub is_known : List Defined → (Defined → Bool) → List ℕ → Bool
 is_known defined allowed text = is_some (number_of allowed defined text)
 
--- a name stands twice
+-- a name occurs twice
 abbrev pub repeats : List (List ℕ) → Bool
 repeats [] = false
 repeats (t ∷ ts) = list_any (same_list t) ts || repeats ts
@@ -75,7 +75,7 @@ renumber defined k = if k == 0 then 0 else unwrap_or (number_of (λ d. true) def
 
 -- ---- one line
 
--- the thread stood in this phase
+-- the thread was in this phase
 abbrev pub has_thread : ℕ → List Part → Bool
 has_thread n parts = list_any (λ p. p.thread == n) parts
 
@@ -83,11 +83,11 @@ has_thread n parts = list_any (λ p. p.thread == n) parts
 abbrev pub is_at_start : Reading → Bool
 is_at_start r = r.minor == 1 && is_empty r.phases
 
--- the version stands first or not at all
+-- the version is first or not at all
 abbrev pub set_version : Reading → Outcome
 set_version r = if is_at_start r then reads (record r { minor = 2 }) else refuses structure
 
--- a thread stands once in a phase
+-- a thread occurs once in a phase
 abbrev pub begin_thread : ℕ → Reading → List (List Part) → Outcome
 begin_thread n r [] = refuses structure
 begin_thread n r (parts ∷ phases) =
@@ -110,7 +110,7 @@ add_line number e r part parts phases =
       names = defined;
     }))
 
--- a statement stands under a thread
+-- a statement is under a thread
 abbrev pub add_statement : ℕ → Event → Reading → List (List Part) → Outcome
 add_statement number e r [] = refuses structure
 add_statement number e r ([] ∷ phases) = refuses structure

@@ -22,7 +22,7 @@ abbrev pub is_empty : {X : Type 0} → List X → Bool
 is_empty [] = true
 is_empty (_ ∷ _) = false
 
--- what stands between spaces
+-- what is between spaces
 abbrev pub tokens_of : List ℕ → List (List ℕ)
 tokens_of line = filter (λ t. not (is_empty t)) (slice_split (λ c. c == 32) line)
 

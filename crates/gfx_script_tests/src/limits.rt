@@ -26,7 +26,7 @@ pub(crate) fn fault_of(alloc: Global, text: &[u8]) -> Result<Option<(u32, Script
     }
 }
 
-/// A text, how many times it stands, what stands behind it, and the first line with a fault and its kind.
+/// A text, how many times it stands, what follows it, and the first line with a fault and its kind.
 type Case = (
     &'static [u8],
     usize,

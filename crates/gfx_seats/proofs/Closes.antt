@@ -74,6 +74,7 @@ module _ {V E : Type 0} (entries : V → List E) (thread_of : E → ℕ) (ids_of
       let heres = λ (j : ℕ) (h : Hand E) (e : get_elem? (v.hand ∷ v.others) j ≡ some h). (oks j h e).here (ap seat_count (idle' j h e)) in
       let ended : Closes entries thread_of kind_of (v.hand ∷ v.others) x = record {
         seen = All-from_each (λ h. IsPrefix h.seen (entries x)) (v.hand ∷ v.others) (λ j h e. subst (IsPrefix h.seen) (sym slot.2) (heres j h e).seen);
+        known = All-from_each (λ h. h.known ≤ length (entries x)) (v.hand ∷ v.others) (λ j h e. subst (λ (l : List E). h.known ≤ length l) (sym slot.2) (heres j h e).high);
         mine = All-from_each (λ h. entries_of thread_of h.thread (entries x) ≡ h.mine) (v.hand ∷ v.others) (λ j h e. ap (entries_of thread_of h.thread) slot.2 ∙ (heres j h e).mine);
         kind = All-from_each (λ h. kind_of x ≡ h.kind) (v.hand ∷ v.others) (λ j h e. slot.3 ∙ sym (heres j h e).kind_is);
         foreign = λ y other. ap (entries_of thread_of y) slot.2 ∙ dite (dec_le seats y) (λ out. k.foreign y out)

@@ -12,7 +12,7 @@ module _ {E : Type 0} (thread_of : E → ℕ) where
   pub entries_of-append : (t : ℕ) (l m : List E) → entries_of thread_of t (l ++ m) ≡ entries_of thread_of t l ++ entries_of thread_of t m
   entries_of-append t l m = filter-append (λ e. thread_of e == t) l m
 
-  -- an entry of the thread stands among those of the thread
+  -- an entry of the thread is among those of the thread
   pub entries_of-has : (t : ℕ) (l : List E) (j : ℕ) (e : E) → get_elem? l j ≡ some e → thread_of e ≡ t → (i : ℕ) × (get_elem? (entries_of thread_of t l) i ≡ some e)
   entries_of-has t [] j e at is = absurd (some-ne-none e (sym at))
   entries_of-has t (y ∷ l) zero e at is = let same = some-injective y e at in let hit : thread_of y == t ≡ true = eq-eqb (thread_of y) t (ap thread_of same ∙ is) in

@@ -186,6 +186,7 @@ module _ {V E : Type 0} (entries : V → List E) (thread_of : E → ℕ) (ids_of
         now = refl;
         before = l.left;
         told = l.right;
+        knows = l.bound (max me.0.hand.known n.known) (omega arith) (omega arith);
         turn = whole;
         own = own;
         alone = alone entries thread_of ids_of kind_of seats kind (stepped s 0 (get_or s.words 0 0) id me.1 w keeps) kept id w (set_here s.views id w (in_range s.views id me.0 at)) bare there;

@@ -6,7 +6,7 @@ abbrev pub weight : Bool → ℕ
 weight true = 1
 weight false = 0
 
--- how often x stands in a list
+-- how often x is in a list
 abbrev pub times : ℕ → List ℕ → ℕ
 times x [] = 0
 times x (y ∷ ys) = weight (y == x) + times x ys

@@ -82,6 +82,7 @@ module _ {V E : Type 0} (entries : V → List E) (thread_of : E → ℕ) (ids_of
     pub now : m' ≡ (record m.0 { hand = with_seen m.0.hand n.seen n.known; notes = [] }, m.1)
     pub before : IsPrefix m.0.hand.seen m'.0.hand.seen
     pub told : IsPrefix n.seen m'.0.hand.seen
+    pub knows : length m'.0.hand.seen ≤ m'.0.hand.known
     pub turn : turn_count m.0.hand.stage ≡ 1 → m'.0.hand.seen ≡ m.0.hand.seen
     pub own : HasAllOwn thread_of m'.0.hand
     pub alone : CreatesAlone ids_of m'.0.hand

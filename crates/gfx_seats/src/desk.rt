@@ -75,7 +75,7 @@ impl<V: Grows + Drop> Desk<V> {
 impl<V: Grows> Desk<V> {
     ghost use Rattle.gfx_seats.specs.Desk.{desk_id};
 
-    /// The next id: another one for each call at this desk, by whatever seat. It takes no memory and waits for nobody.
+    /// The next id: another one for each call at this desk, by whatever seat. It takes no memory and never waits.
     pub fn draw(&self, seat: &mut Seat<V>) -> u64
         requires desk { desk_of seat.old ≡ desk_id self.now }
         requires few { length (hand seat.old).drawn < 2 ^ 32 }
@@ -89,7 +89,7 @@ impl<V: Grows> Desk<V> {
             .fetch_add::<Draw<V>>(&mut seat.token, NEXT_ID, 1)
     }
 
-    /// How many entries the history has at least. It takes no memory and waits for nobody.
+    /// How many entries the history has at least. It takes no memory and never waits.
     pub fn written(&self, seat: &mut Seat<V>) -> u64
         requires desk { desk_of seat.old ≡ desk_id self.now }
         ensures desk { desk_of seat.new ≡ desk_of seat.old }
@@ -116,7 +116,7 @@ impl<V: Grows> Desk<V> {
         Turn { of: PhantomData }
     }
 
-    /// From then on both seats have seen the longer of their two histories. It takes no memory and waits for nobody.
+    /// From then on both seats have seen the longer of their two histories. It takes no memory and never waits.
     pub fn meet(&self, one: &mut Seat<V>, other: &mut Seat<V>)
         requires one_desk { desk_of one.old ≡ desk_id self.now }
         requires other_desk { desk_of other.old ≡ desk_id self.now }

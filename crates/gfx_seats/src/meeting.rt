@@ -1,5 +1,5 @@
 //! How one token learns what another has seen.
-ghost use Rattle.std.specs.Prelude.{◌≡◌, []};
+ghost use Rattle.std.specs.Prelude.{◌≡◌, ◌≤◌, [], length};
 ghost use mathlib.Core.List.{IsPrefix};
 ghost use Rattle.gfx_seats.specs.declared.stage.Stage.TheVariants.{HasTurn};
 ghost use Rattle.gfx_seats.specs.Stage.{seat_count};
@@ -20,6 +20,7 @@ pub(crate) fn tell<V: Grows>(board: &Board<V>, from: &mut Token<V>, to: &mut Tok
     ensures to { to.new.me ≡ with_me to.old.me (with_seen to.old.me.0.hand from.old.me.0.hand.seen from.old.me.0.hand.known) }
     ensures before { IsPrefix to.old.me.0.hand.seen to.new.me.0.hand.seen }
     ensures told { IsPrefix from.old.me.0.hand.seen to.new.me.0.hand.seen }
+    ensures knows { length to.new.me.0.hand.seen ≤ to.new.me.0.hand.known }
     ensures turn { to.old.me.0.hand.stage ≡ HasTurn → to.new.me.0.hand.seen ≡ to.old.me.0.hand.seen }
     ensures own { HasAllOwn V.thread_of to.new.me.0.hand }
     ensures alone { CreatesAlone V.ids_of to.new.me.0.hand }

@@ -1,4 +1,4 @@
-ghost use Rattle.std.specs.Prelude.{◌≡◌, []};
+ghost use Rattle.std.specs.Prelude.{◌≡◌, ◌≤◌, [], length};
 ghost use Rattle.gfx_seats.specs.Stage.{stage_of};
 ghost use Rattle.gfx_seats.specs.Hand.{HasAllOwn, CreatesAlone};
 ghost use Rattle.gfx_seats.specs.Steps.{HoldsSlot};
@@ -16,6 +16,7 @@ pub struct Seat<V: Grows> {
     ghost stage_is: { token.me.0.hand.stage ≡ stage_of has_turn },
     ghost bare: { (token.me.0.others ≡ []) × (token.me.0.notes ≡ []) },
     ghost holds: { HoldsSlot V.entries V.kind token.me },
+    ghost knows: { length token.me.0.hand.seen ≤ token.me.0.hand.known },
     ghost own: { HasAllOwn V.thread_of token.me.0.hand },
     ghost alone: { CreatesAlone V.ids_of token.me.0.hand },
 }

@@ -1,4 +1,4 @@
-/// Where a thread stands with its turn. No value of it is made: proofs alone speak of it.
+/// Where a thread is with its turn. No value of it is made: proofs alone speak of it.
 pub enum Stage {
     /// There is no thread.
     Absent,

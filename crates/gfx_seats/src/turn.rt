@@ -37,7 +37,7 @@ impl<V: Grows + Drop> Turn<V> {
 }
 
 impl<V: Grows> Turn<V> {
-    /// Ends the turn. It takes no memory and waits for nobody.
+    /// Ends the turn. It takes no memory and never waits.
     pub fn leave(self, desk: &Desk<V>, seat: &mut Seat<V>)
         requires desk { desk_of seat.old ≡ desk_id desk.now }
         requires turn { (hand seat.old).stage ≡ HasTurn }

@@ -1,4 +1,8 @@
 //! The steps of a turn, taken with a token.
+//!
+//! A thread first looks whether no ticket is out, and takes one only then; after 64 looks it takes one in any case.
+//! Tickets alone hand the turn to the thread that waits longest, which on a busy machine is mostly one that isn't
+//! running.
 ghost use Rattle.std.specs.Prelude.{◌≡◌, ℕ, ◌%◌, ◌^◌, [], ◌∷◌, Some};
 ghost use Rattle.gfx_seats.specs.declared.stage.Stage.TheVariants.{Idle, Waits, HasTurn};
 ghost use Rattle.gfx_seats.specs.Entries.{AreAmong};

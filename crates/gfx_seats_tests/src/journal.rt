@@ -23,7 +23,7 @@ pub struct Batch {
     pub events: Vec<Event>,
 }
 
-/// From where on the events stand in the journal, and how many they are.
+/// From where on the events are in the journal, and how many they are.
 #[derive(Clone, Copy, Debug, PartialEq, Eq)]
 pub struct Receipt {
     pub from: u64,

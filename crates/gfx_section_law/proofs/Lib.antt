@@ -1,4 +1,4 @@
--- ---- what a history left, cut down to what stands already, and events that lead from one cut to the next
+-- ---- what a history left, cut down to what exists already, and events that lead from one cut to the next
 pub mod Picks
 pub mod Builds
 pub mod Shown

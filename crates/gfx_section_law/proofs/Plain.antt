@@ -25,7 +25,7 @@ use Rattle.gfx_section_law.proofs.Shown.{Cuts, all, shown, shown_answers, bytes_
 use Rattle.gfx_section_law.proofs.Ranks.{rank, is_part, has_parts, before, goes, goes_by, joined, joined_alone, instance_before, device_before}
 use Rattle.gfx_section_law.proofs.Objects.{live_ok, there, no_bound, no_layout, no_mapped, no_buffer, no_signal, no_acquired, no_bytes, new_ok, room_ok, next_made}
 
--- where the blocks of an object start: all that stands before them is made, and nothing of the object
+-- where the blocks of an object start: all that is before them is made, and nothing of the object
 pub record Starts (v : View) (x : ℕ) (r : ℕ) (done : ℕ → Bool) : Type 0 where
   pub low : (y : ℕ) → before v r y ≡ true → done y ≡ true
   pub new : (y : ℕ) → goes v x y ≡ true → done y ≡ false

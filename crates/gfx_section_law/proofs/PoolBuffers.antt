@@ -184,7 +184,7 @@ module _ (k : Known) (n : ℕ) (orderly : IsOrderly k.answers) (done : ℕ → B
   abbrev pub having : (ℕ → Bool) → Cuts
   having some = record allocated { buffer = some }
 
-  -- x, its buffers and all that stands before them are as they were
+  -- x, its buffers and all that is before them are as they were
   pub agrees_done : (some : ℕ → Bool) (y : ℕ) → done y ≡ true → (shown_answers k n (having some)).live y ≡ k.answers.live y
   agrees_done some y e = live_shown k n (having some) y (alsos-out parts (also x done) y (also-out x done y e))
 

@@ -55,7 +55,7 @@ module _ (k : Known) (n : ℕ) (orderly : IsOrderly k.answers) (done : ℕ → B
   agrees_part : (some : ℕ → Bool) (y : ℕ) → is_among y parts ≡ true → (shown_answers k n (having some)).live y ≡ k.answers.live y
   agrees_part = buffers.agrees_part k n orderly done x parent flags is starts
 
-  -- a usable resource stands before a pool
+  -- a usable resource is before a pool
   window_rank : (d : Detail) (y : ℕ) → is_some (detail_window k.answers y d) ≡ true → nat_lt (rank d) 10 ≡ true
   window_rank (a_buffer size usage) y e = refl
   window_rank (an_image f w h u None) y e = refl
@@ -85,7 +85,7 @@ module _ (k : Known) (n : ℕ) (orderly : IsOrderly k.answers) (done : ℕ → B
         by true e = no_zero
         by false e = refl
 
-    -- an object that stands before pools: its device is as it was
+    -- an object that is before pools: its device is as it was
     parent_cases : (d : Detail) (p : ℕ) → nat_lt (rank d) 10 ≡ true → IsMadeOf k.answers p d → (before k.answers 10 p ≡ true) ⊎ (p ≡ 0)
     parent_cases (an_instance api) p r m = inr m
     parent_cases a_surface p r m = inl (instance_before k.answers 10 p m (omega arith))

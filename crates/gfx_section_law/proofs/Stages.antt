@@ -219,7 +219,7 @@ module _ (k : Known) (n : ℕ) (orderly : IsOrderly k.answers) where
           later zs b.1 c.1,
         )
 
-    -- what stands before the next kind
+    -- what is before the next kind
     next_before : (y : ℕ) → joined_all (live_ids k.answers j) (before k.answers (kind_rank j)) y ≡ before k.answers (suc (kind_rank j)) y
     next_before y = joined-at (live_ids k.answers j) (before k.answers (kind_rank j)) y ∙ by (k.answers.live y) refl
       where

@@ -22,7 +22,7 @@ pub sum_same : (c : ℕ) (xs : List ℕ) → sum_by (λ x. c) xs ≡ c * length 
 sum_same c [] = omega arith
 sum_same c (x ∷ xs) = let a = sum_by-cons (λ (x : ℕ). c) x xs in let r = sum_same c xs in grind (arith, a, r)
 
--- what stands once at most
+-- what occurs once at most
 sum_none : (a c : ℕ) (xs : List ℕ) → AllByRecursion (λ x. a < x) xs → sum_by (λ x. if a == x then c else 0) xs ≡ 0
 sum_none a c [] l = refl
 sum_none a c (x ∷ xs) l =

@@ -19,7 +19,7 @@ use Rattle.gfx_shadow.proofs.StretchBytes.{before_is_none, behind_is_none, is_in
 abbrev pub Map : Type 0
 Map = map.FinMap nat_cmp Stretch
 
--- all of the first stand in the second
+-- all of the first are in the second
 abbrev pub AreAmong : Map → Map → Type 0
 AreAmong n m = (key : ℕ) (s : Stretch) → map.get n key ≡ Some s → map.get m key ≡ Some s
 

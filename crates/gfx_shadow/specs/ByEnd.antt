@@ -11,7 +11,7 @@ use Rattle.gfx_shadow.specs.declared.stretch.Stretch.{Stretch}
 unfoldable pub byte_of : map.FinMap nat_cmp Stretch → ℕ → Option ℕ
 byte_of m i = option_and_then (λ s. stretch_byte s i) (option_and_then (map.get m) (least_above m i))
 
--- each stretch has bytes and stands under its end, and before each there is an offset without a byte
+-- each stretch has bytes and is under its end, and before each there is an offset without a byte
 pub record AreApart (m : map.FinMap nat_cmp Stretch) : Type 0 where
   pub some : (key : ℕ) (s : Stretch) → map.get m key ≡ Some s → s.start < s.end
   pub ends : (key : ℕ) (s : Stretch) → map.get m key ≡ Some s → s.end ≡ key

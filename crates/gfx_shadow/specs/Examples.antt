@@ -10,12 +10,12 @@ use Rattle.gfx_shadow.specs.Gathered.{gathered, gathered_after}
 abbrev line : ℕ → Event → Line
 line number event = record { number = number; event = event }
 
--- the second write covers a byte of the first, the third stands apart
+-- the second write covers a byte of the first, the third is written apart
 overlapping : fills (write_of 7 0 (97 ∷ 97 ∷ []) ∷ write_of 7 1 (98 ∷ 99 ∷ []) ∷ write_of 7 8 (122 ∷ []) ∷ []) ≡ write_of 7 0 (97 ∷ 98 ∷ 99 ∷ []) ∷ write_of 7 8 (122 ∷ []) ∷ []
 unfolding fills held_byte runs firsts reach
 overlapping = refl
 
--- writes in falling order that touch are one run; the memory that was written first stands first
+-- writes in falling order that touch are one run; the memory that was written first is first
 falling : fills (write_of 9 2 (5 ∷ []) ∷ write_of 7 0 (1 ∷ []) ∷ write_of 9 1 (4 ∷ []) ∷ write_of 9 0 (3 ∷ []) ∷ []) ≡ write_of 9 0 (3 ∷ 4 ∷ 5 ∷ []) ∷ write_of 7 0 (1 ∷ []) ∷ []
 unfolding fills held_byte runs firsts reach
 falling = refl
@@ -31,7 +31,7 @@ before_submit : gathered (line 12 (FillMemory 7 0 (97 ∷ 97 ∷ [])) ∷ line 1
 unfolding fills held_byte runs firsts reach gathered_after
 before_submit = refl
 
--- a write after the unmap stands with the number of the last line, and other lines stay
+-- a write after the unmap is with the number of the last line, and other lines stay
 at_end : gathered (line 12 (UnmapMemory 2 7) ∷ line 13 (FillMemory 7 0 (97 ∷ [])) ∷ line 24 (DeviceWaitIdle 2) ∷ []) ≡ line 12 (UnmapMemory 2 7) ∷ line 24 (DeviceWaitIdle 2) ∷ line 24 (FillMemory 7 0 (97 ∷ [])) ∷ []
 unfolding fills held_byte runs firsts reach gathered_after
 at_end = refl

@@ -1,4 +1,4 @@
--- Where memories stand among those for which something was held.
+-- Where memories are among those for which something was held.
 use Rattle.std.specs.Prelude.{◌≡◌, ℕ, ◌+◌, ◌<◌, ◌≤◌, false, List, length, get_or, drop, Some, None}
 use Rattle.std.specs.Ordering.{nat_cmp}
 use Rattle.std.specs.FinMap as map
@@ -17,7 +17,7 @@ left_of m = drop m.first m.rows.items
 abbrev pub held_by : Memories → List Write
 held_by m = fills_of (left_of m)
 
--- the memory stands here among numbers, of which the first are done
+-- the memory is here among numbers, of which the first are done
 pub record IsAt (first : ℕ) (numbers : List ℕ) (memory at : ℕ) : Type 0 where
   pub left : first ≤ at
   pub inside : at < length numbers

@@ -1,4 +1,7 @@
 //! The bytes that are held for a memory.
+//!
+//! A write goes into the longer of the two stretches that it touches, so n bytes in any order of offsets take n log n
+//! steps, and memory in proportion to the bytes that are held.
 ghost use Rattle.gfx_shadow.specs.ByEnd.{AreApart};
 
 use crate::stretch::Stretch;

@@ -25,7 +25,7 @@ fn was_read(rt: &impl Abort, length: usize, ended: &Ended, number: u64) -> bool 
     false
 }
 
-/// A write failed behind a front of the text. Answers whether none failed, and all is there.
+/// A write failed behind a prefix of the text. Answers whether none failed, and all is there.
 fn was_written(rt: &impl Abort, ended: &Ended, number: u64) -> bool {
     if ended.status == 0 {
         assert_all_shown(rt, ended);

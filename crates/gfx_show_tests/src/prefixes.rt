@@ -11,7 +11,7 @@ const SIZES: [usize; 31] = [
     64, 64, 48, 44, 64, 64, 48,
 ];
 
-/// Replays the file that has just the whole blocks of this front.
+/// Replays the file that has just the whole blocks of this prefix.
 fn assert_whole(rt: &(impl Abort + AllocGlobal), front: &[u8]) -> Result<(), Fail> {
     let shown = shown_before(front.len());
     let mut text = Vec::from_slice(rt.alloc(), shown)?;

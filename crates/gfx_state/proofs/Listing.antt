@@ -138,7 +138,7 @@ images_none v xs n index over =
     let none : n - index ≡ 0 = omega arith in
     ap (images_at v xs index) none
 
--- ---- an image stands at one index at most
+-- ---- an image is at one index at most
 
 -- how many of the indices are those of an image
 abbrev indices_of : View → ℕ → (from count : ℕ) → ℕ

@@ -83,7 +83,7 @@ wrote_out {o = o} {n = n} {a = a} {b = b} {xs = xs} ys r w out =
     let p = err_from_is_err_and r out in
     subst (Wrote o n a b (xs ++ ys)) (sym (p.1 ∙ ap (λ f. Err f) p.2)) (wrote_part ys w)
 
--- nothing was written for want of memory
+-- nothing was written when out of memory
 pub wrote_less : {o : Option (List ℕ)} {b : ℕ} (es : List Event) (r : Result (Unit {0}) StateFault) → IsErrAnd r (λ f. f ≡ WantMemory) → Wrote o o b b es r
 wrote_less {o = o} {b = b} es r out =
     let p = err_from_is_err_and r out in

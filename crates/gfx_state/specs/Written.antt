@@ -13,8 +13,8 @@ use Rattle.gfx_state.specs.declared.fault.StateFault.TheVariants.{SinkFault}
 unfoldable pub blocks_of : List Event → List ℕ
 blocks_of events = flat_map (encoding 1 0) events
 
--- A sink took the blocks of these events, or a front of them where the call failed; and it fails only where the sink did, or for
--- want of memory.
+-- A sink took the blocks of these events, or a prefix of them where the call failed; and it fails only where the sink did, or for
+-- a lack of memory.
 pub record Wrote (old new : Option (List ℕ)) (before now : ℕ) (events : List Event) (result : Result (Unit {0}) StateFault) : Type 0 where
   pub whole : OnOk result (Appends old new (blocks_of events))
   pub front : OnErr result (AppendsPart old new (blocks_of events))

@@ -1,4 +1,4 @@
-//! Why a section isn't written whole.
+//! The faults of writing a section.
 ghost use Rattle.std.specs.Prelude.{◌≡◌};
 ghost use Rattle.gfx_state.specs.declared.fault.StateFault.TheVariants.{SinkFault, WantMemory as NoMemory};
 

@@ -1,4 +1,7 @@
 //! What is kept of a section.
+//!
+//! Whether kept ids hang together is up to the caller: each block that is kept is one of the section's, and has a
+//! spelling and room in any case.
 ghost use Rattle.std.specs.Prelude.{◌≡◌};
 ghost use Rattle.gfx_state.specs.Sections.{everything};
 

@@ -202,7 +202,7 @@ pub(crate) fn write_recorded<P: Keep, K: Sink>(
     write_recordings(sink, room, recordings, &cbs)
 }
 
-// Writes what stands behind the creation of a pool: its kept buffers, and what is recorded in them.
+// Writes what follows the creation of a pool: its kept buffers, and what is recorded in them.
 fn write_buffers<P: Keep, K: Sink>(
     sink: &mut K,
     room: &mut Room,

@@ -25,7 +25,7 @@ use gfx_io::Sink;
 use gfx_types::{Effect, Kind};
 use std::alloc::{AllocError, Global};
 
-/// The kinds in the order of a section. An image of a swapchain and a command buffer stand with their parents.
+/// The kinds in the order of a section. An image of a swapchain and a command buffer are with their parents.
 const ORDER: [Kind; 11] = [
     Kind::Instance,
     Kind::Surface,
@@ -71,7 +71,7 @@ fn kind_of(parts: &Parts<'_>, id: u64) -> Option<Kind>
     }
 }
 
-// The same of each of these ids.
+// The kinds of the live objects of these ids, where there are such.
 fn kinds_of(alloc: Global, parts: &Parts<'_>, ids: &[u64]) -> Result<Vec<Option<Kind>>, AllocError>
     ensures { IfOk result (λ kinds. kinds.items ≡ each (kind_at (answers_in parts.now)) ids.now) }
 {
@@ -202,7 +202,7 @@ pub(crate) fn write_section<B: StateBytes, P: Keep, K: Sink>(
     ensures ok { (es : List Change) → IsStored (answers_in parts.now) (B.bytes bytes.now) es
         → OnOk result (Appends (K.taken sink.old) (K.taken sink.new) (flat_map (encoding 1 0) (kept_by (P.kept keep.now) (record { answers = answers_in parts.now; es = es }) frame))) }
 
-    // After an error the sink took a front of it.
+    // After an error the sink took a prefix of it.
     ensures err { (es : List Change) → IsStored (answers_in parts.now) (B.bytes bytes.now) es
         → OnErr result (AppendsPart (K.taken sink.old) (K.taken sink.new) (flat_map (encoding 1 0) (kept_by (P.kept keep.now) (record { answers = answers_in parts.now; es = es }) frame))) }
     ensures later { K.faults sink.old ≤ K.faults sink.new }

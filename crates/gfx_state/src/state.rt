@@ -37,7 +37,7 @@ pub fn write_some<B: StateBytes, P: Keep, K: Sink>(
     ensures ok { (h : List Event) → Stands (answers tracker.now) h → IsStored (answers tracker.now) (B.bytes bytes.now) (executed h)
         → OnOk result (Appends (K.taken sink.old) (K.taken sink.new) (flat_map (encoding 1 0) (kept_section (P.kept keep.now) h frame))) }
 
-    // After an error the sink took a front of it.
+    // After an error the sink took a prefix of it.
     ensures err { (h : List Event) → Stands (answers tracker.now) h → IsStored (answers tracker.now) (B.bytes bytes.now) (executed h)
         → OnErr result (AppendsPart (K.taken sink.old) (K.taken sink.new) (flat_map (encoding 1 0) (kept_section (P.kept keep.now) h frame))) }
     ensures later { K.faults sink.old ≤ K.faults sink.new }
@@ -66,7 +66,7 @@ pub fn write_state<B: StateBytes, K: Sink>(
     ensures ok { (h : List Event) → Stands (answers tracker.now) h → IsStored (answers tracker.now) (B.bytes bytes.now) (executed h)
         → OnOk result (Appends (K.taken sink.old) (K.taken sink.new) (flat_map (encoding 1 0) (section h frame))) }
 
-    // After an error the sink took a front of the section.
+    // After an error the sink took a prefix of the section.
     ensures err { (h : List Event) → Stands (answers tracker.now) h → IsStored (answers tracker.now) (B.bytes bytes.now) (executed h)
         → OnErr result (AppendsPart (K.taken sink.old) (K.taken sink.new) (flat_map (encoding 1 0) (section h frame))) }
     ensures later { K.faults sink.old ≤ K.faults sink.new }

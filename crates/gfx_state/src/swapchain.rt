@@ -135,7 +135,7 @@ struct Images {
     size: u64,
 }
 
-// Writes what stands behind the creation of a swapchain with these images: their fetch, the acquired marks, and the layout
+// Writes what follows the creation of a swapchain with these images: their fetch, the acquired marks, and the layout
 // and the bytes of each fetched image.
 fn write_images<B: StateBytes, K: Sink>(
     sink: &mut K,

@@ -12,7 +12,7 @@ use gfx_blocks::put_block;
 use gfx_io::{Sink, write_whole};
 use gfx_types::{Effect, Meta};
 
-/// Writes the block of an effect under thread 0. The room for it is lent, and what stands there is of no meaning.
+/// Writes the block of an effect under thread 0. The room for it is lent, and what is there is of no meaning.
 pub(crate) fn write_effect<K: Sink>(
     sink: &mut K,
     room: &mut Room,

@@ -44,7 +44,7 @@ impl Sync {
         self.signals.get(id).copied().unwrap_or(false)
     }
 
-    /// Keeps a fence or semaphore. After want of memory all is as it was.
+    /// Keeps a fence or semaphore. When out of memory all is as it was.
     pub fn add(&mut self, id: u64, signalled: bool) -> Result<(), WantMemory>
         ensures ok { OnOk result (self.new ≡ map.insert self.old id signalled) }
         ensures err { OnErr result (self.new ≡ self.old) }
@@ -62,7 +62,7 @@ impl Sync {
         self.signals.set(id, signalled);
     }
 
-    /// Lets go of a kept fence or semaphore.
+    /// Drops a kept fence or semaphore.
     pub fn remove(&mut self, id: u64)
         requires { IsSome (map.get self.old id) }
         ensures { self.new ≡ map.remove self.old id }

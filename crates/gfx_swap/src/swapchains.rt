@@ -60,7 +60,7 @@ impl Swaps {
         }
     }
 
-    /// Keeps a swapchain with so many images, none of them acquired. After want of memory all is as it was.
+    /// Keeps a swapchain with so many images, none of them acquired. When out of memory all is as it was.
     pub fn add(&mut self, swapchain: u64, images: u32) -> Result<(), WantMemory>
         ensures ok { OnOk result (self.new ≡ map.insert self.old swapchain (replicate images false)) }
         ensures err { OnErr result (self.new ≡ self.old) }
@@ -83,7 +83,7 @@ impl Swaps {
         self.swapchains.set(swapchain, marks);
     }
 
-    /// Lets go of a kept swapchain.
+    /// Drops a kept swapchain.
     pub fn remove(&mut self, swapchain: u64)
         requires { IsSome (map.get self.old swapchain) }
         ensures { self.new ≡ map.remove self.old swapchain }

@@ -55,7 +55,7 @@ module _ {X : Type 0} where
   get_take (x ∷ xs) (suc n) zero = grind (arith, nat_tests)
   get_take (x ∷ xs) (suc n) (suc i) = let rest = get_take xs n i in grind (arith, nat_tests, rest)
 
-  -- a list from which the one at a place is taken: the last one stands there then
+  -- a list from which the one at a place is taken: the last one is there then
   abbrev pub IsMoved : List X → ℕ → List X → Type 0
   IsMoved old p new = (length new + 1 ≡ length old)
       × ((k : ℕ) → slice_get new k ≡ (if nat_lt (k + 1) (length old) then slice_get old (if k == p then length old - 1 else k) else None))
@@ -72,7 +72,7 @@ module _ {X : Type 0} where
         grind (arith, nat_tests, a, b, c, d, lt),
   )
 
--- what stands at a place, and none past the last
+-- what is at a place, and none past the last
 pub item_at : {X : Type 0} (xs : List X) (i : ℕ) (o : Option (Bor X)) → IsItemAt xs i o → option_copied o ≡ slice_get xs i
 item_at xs i None is = sym (slice_get_past xs i is.3)
 item_at xs i (Some x) is = sym (slice_get_read xs (length xs) i x.now refl is.3.0 is.1)
@@ -190,7 +190,7 @@ module _ {X : Type 0} where
           let push = get_push rows row k in
           grind (arith, nat_tests, lt, each, push)
 
-  -- the row at a place is taken, and the last one stands there then, if it was not the last itself
+  -- the row at a place is taken, and the last one is there then, if it was not the last itself
   pub remove_row : (ids ids2 : List ℕ) (rows rows2 : List X) (places : FinMap nat_cmp ℕ) → IsDense ids (length rows) places
       → (id p : ℕ) → map.get places id ≡ Some p → IsMoved ids p ids2 → IsMoved rows p rows2 → (o : Option ℕ) → slice_get ids2 p ≡ o
       → IsDense ids2 (length rows2) (settled (map.remove places id) o p) × (rows_of rows2 (settled (map.remove places id) o p) ≡ map.remove (rows_of rows places) id)
@@ -325,7 +325,7 @@ less_placed ids ids2 places id is listed q some =
     let c : is_listed q ids ≡ ((id == q) || is_listed q ids2) = ap (is_listed q) is in
     grind (arith, nat_tests, a, b, c, some)
 
--- the one that stands at the place of an id which goes has a place still
+-- the one that is at the place of an id which goes has a place still
 pub still_placed : (ids ids2 : List ℕ) (count : ℕ) (places : FinMap nat_cmp ℕ) → IsDense ids count places
     → (id p : ℕ) → map.get places id ≡ Some p → IsMoved ids p ids2 → (m : ℕ) → slice_get ids2 p ≡ Some m → IsSome (map.get (map.remove places id) m)
 still_placed ids ids2 count places dense id p is mids m at =

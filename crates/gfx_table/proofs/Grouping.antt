@@ -1,5 +1,5 @@
 -- The members of sets after a change of one of them.
-use Rattle.std.proofs.Common.{◌≡◌, ℕ, ◌+◌, ◌≤◌, ◌==◌, Bool, false, ◌&&◌, ◌||◌, Option, Some, None, is_some, if◌then◌else◌, refl, ap, ◌∙◌, arith, Bor}
+use Rattle.std.proofs.Common.{◌≡◌, ℕ, ◌+◌, ◌≤◌, ◌==◌, Bool, true, false, ◌&&◌, ◌||◌, Option, Some, None, is_some, if◌then◌else◌, refl, ap, ◌∙◌, arith, Bor}
 use Rattle.std.specs.Option.{option_map_or, option_copied}
 use Rattle.std.specs.Ordering.{nat_cmp}
 use Rattle.std.specs.FinMap as map
@@ -50,6 +50,14 @@ closed m n r is = λ i g x. (each g x) i
         let b = kept n g x (if r == g then None else map.get m g) a in
         let c = kept m g x (map.get m g) refl in
         grind (arith, nat_tests, b, c)
+
+-- a set that is closed leaves the room of the others
+pub closed_room : (m n : FinMap nat_cmp Set) (r : ℕ) → n ≡ map.remove m r → (g : ℕ) → (r == g) ≡ false → room_in m g ≤ room_in n g
+closed_room m n r is g apart =
+    let a : map.get n g ≡ (if r == g then None else map.get m g) = ap (λ m. map.get m g) is ∙ ap (λ f. f g) (got-remove m r) in
+    let b = spared n g (if r == g then None else map.get m g) a in
+    let c = spared m g (map.get m g) refl in
+    grind (arith, nat_tests, b, c, apart)
 
 module _ (m n : FinMap nat_cmp Set) (r : ℕ) where
   module _ (s : Set) (is : n ≡ map.insert m r s) where
@@ -110,6 +118,22 @@ module _ (m n : FinMap nat_cmp Set) (r : ℕ) where
       let b = spared m r o was in
       let c : r ≡ g → room_in m r ≡ room_in m g = ap (room_in m) in
       grind (arith, nat_tests, a, b, c, more)
+
+  -- a set that loses a member and its own room leaves the room of the others
+  pub last_room : (t : Set) → n ≡ map.remove (map.insert m r t) r → (g : ℕ) → (r == g) ≡ false → room_in m g ≤ room_in n g
+  last_room t is g apart =
+      let a : map.get n g ≡ (if r == g then None else map.get (map.insert m r t) g) = ap (λ m. map.get m g) is ∙ ap (λ f. f g) (got-remove (map.insert m r t) r) in
+      let b : map.get (map.insert m r t) g ≡ (if r == g then Some t else map.get m g) = ap (λ f. f g) (got-insert m r t) in
+      let d = spared n g (map.get n g) refl in
+      let e = spared m g (map.get m g) refl in
+      grind (arith, nat_tests, a, b, d, e, apart)
+
+  -- nothing is left in it, so what has a member is another set
+  pub last_left : (t : Set) → n ≡ map.remove (map.insert m r t) r → (g x : ℕ) → is_member n g x ≡ true → room_in m g ≤ room_in n g
+  last_left t is g x member =
+      let gone : is_member n g x ≡ (if r == g then false else is_member (map.insert m r t) g x) = ap (λ f. f g x) (closed (map.insert m r t) n r is) in
+      let others = last_room t is g in
+      grind (arith, nat_tests, gone, others, member)
 
   pub room_there : (t : Set) → n ≡ map.insert m r t → room_in n r ≡ t.spare
   room_there t is = let a = put_room t is r in grind (arith, nat_tests, a)

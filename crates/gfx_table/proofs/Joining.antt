@@ -93,7 +93,7 @@ module _ {X : Type 0} where
       let here : q ≡ k → lookup (is_at (nat_cmp q)) es ≡ None = λ p. rw p none in
       grind (arith, nat_tests, a, b, c, d, here)))
 
-  -- ---- that no id stands in both
+  -- ---- that no id is in both
 
   as_found : (es : List (ℕ × X)) (m : FinMap nat_cmp X) → ((q : ℕ) → is_some (lookup (is_at (nat_cmp q)) es) && is_some (map.get m q) ≡ false) → IsApart es m
   as_found es m apart q = rw lookup_find at (apart q)

@@ -1,4 +1,4 @@
--- The least id above a given one, and how many rows there are, where the rows stand in a tree and in a list.
+-- The least id above a given one, and how many rows there are, where the rows are in a tree and in a list.
 use Rattle.std.proofs.Common.{◌≡◌, ℕ, ◌+◌, false, ◌&&◌, is_some, T, List, [], ◌∷◌, ◌++◌, length, min, nat_lt, Option, Some, None, refl, sym, ap, ◌∙◌, arith, if◌then◌else◌}
 use Rattle.std.specs.Prelude.{map as each, not}
 use Rattle.std.specs.List.{find as first_passing, filter, AllByRecursion}

@@ -15,7 +15,7 @@ use Rattle.std.proofs.lemmas.List.{take_more}
 use Rattle.std.proofs.lemmas.List.{length-take}
 use Rattle.gfx_table.proofs.Densing.{listed_at, unlisted, get_take, moved, push_row, remove_row, IsMoved}
 
--- what has a place stands there
+-- what has a place is there
 found_from : (n : ℕ) (ids : List ℕ) (q p : ℕ) → map.get (places_from n ids) q ≡ Some p → (n ≤ p) × (slice_get ids (p - n) ≡ Some q)
 unfolding places_from
 found_from n [] q p is = let none = get-empty {X = ℕ} nat_cmp q in absurd (grind (arith, none, is))
@@ -35,7 +35,7 @@ found_from n (x ∷ ids) q p is = by (q == x) refl (found_from (suc n) ids q p)
         let next : p - n ≡ suc (p - suc n) = omega (arith, far) in
         (omega (arith, far), ap (slice_get (x ∷ ids)) next ∙ behind.1)
 
--- what stands once in the list has its place
+-- what occurs once in the list has its place
 placed_from : (n : ℕ) (ids : List ℕ) → StandApart ids → (q k : ℕ) → slice_get ids k ≡ Some q → map.get (places_from n ids) q ≡ Some (n + k)
 unfolding places_from
 placed_from n [] apart q k at = absurd (grind (arith, at))
@@ -100,7 +100,7 @@ not_listed ids id apart none = unlisted ids id (λ p at. let there = its_place i
 pub pushed : (ids : List ℕ) (id : ℕ) → StandApart ids → is_listed id ids ≡ false → IsDense (ids ++ id ∷ []) (length (ids ++ id ∷ [])) (map.insert (places_in ids) id (length ids))
 pushed ids id apart none = (push_row ids ids (places_in ids) (dense_in ids (length ids) apart refl) id id (no_place ids id none)).0
 
--- the id at a place goes, and the last one stands there
+-- the id at a place goes, and the last one is there
 pub removed : (ids ids2 : List ℕ) (id p : ℕ) → StandApart ids → slice_get ids p ≡ Some id → IsMoved ids p ids2
     → IsDense ids2 (length ids2) (settled (map.remove (places_in ids) id) (slice_get ids2 p) p)
 removed ids ids2 id p apart at move =

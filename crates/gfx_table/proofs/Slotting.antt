@@ -18,7 +18,7 @@ use Rattle.std.specs.List.Sorted.{IsSorted, IsPermutation}
 use Rattle.gfx_table.proofs.Joining.{lookup_find, find_append, get-joined, IsChanged, got, missing_in_list, insert_in_tree, insert_in_list, remove_in_tree, remove_in_list, apart_insert_tree, apart_insert_list, apart_remove_tree, apart_remove_list}
 
 module _ {X : Type 0} where
-  -- an id that stands in no slot
+  -- an id that is in no slot
   pub none_filled : (slots : List (Option (ℕ × X))) (q : ℕ) → ((i : ℕ) (e : ℕ × X) → slot_at slots i ≡ Some e → e.0 ≢ q) → find nat_cmp q (filled slots) ≡ None
   none_filled [] q without = refl
   none_filled (None ∷ slots) q without = none_filled slots q (λ i e is. without (suc i) e is)
@@ -27,7 +27,7 @@ module _ {X : Type 0} where
       let other = without 0 e refl in
       grind (arith, nat_tests, rest, other)
 
-  -- an id that stands in no slot but this
+  -- an id that is in no slot but this
   found : (slots : List (Option (ℕ × X))) (s q : ℕ) → ((i : ℕ) (e : ℕ × X) → slot_at slots i ≡ Some e → e.0 ≡ q → i ≡ s) → find nat_cmp q (filled slots) ≡ row_in (slot_at slots s) q
   found [] s q only = refl
   found (None ∷ slots) zero q only = none_filled slots q (λ i e is same. let at = only (suc i) e is same in omega (arith, at))
@@ -49,7 +49,7 @@ module _ {X : Type 0} where
 
   -- ---- one slot is given something of an id, or nothing
 
-  -- the id stands in this slot, if it stands in one
+  -- the id is in this slot, if it is in one
   abbrev pub StandsAt : List (Option (ℕ × X)) → ℕ → ℕ → Type 0
   StandsAt slots id s = (i : ℕ) (e : ℕ × X) → slot_at slots i ≡ Some e → e.0 ≡ id → i ≡ s
 
@@ -230,7 +230,7 @@ module _ {X : Type 0} where
           let has : is_some (row_in (slot_at slots s) id) ≡ true = ap is_some (has_row (slot_at slots s) id e some (can.own e some)) in
           to (stands_there slots s id is.placed.once has) (missing_there mask d slots m is s id has)
 
-  -- a row that isn't there stands in no slot
+  -- a row that isn't there is in no slot
   pub new_nowhere : (mask : ℕ) (d : Bool) (slots : List (Option (ℕ × X))) (m : FinMap nat_cmp X) → IsSlotted mask d slots m → (id : ℕ) → map.get (joined (filled slots) m) id ≡ None
       → (slot : ℕ) → row_in (slot_at slots slot) id ≡ None
   new_nowhere mask d slots m is id new slot = by (row_in (slot_at slots slot) id) refl
@@ -257,7 +257,7 @@ module _ {X : Type 0} where
       let missing = looked_nowhere mask slots first id is.placed at none in
       (record { placed = is.placed; own = is.own; apart = apart_insert_list (filled slots) _ m id row is.apart refl missing }, insert_in_list (filled slots) _ m id row refl missing)
 
-  -- a row stands in one of the slots
+  -- a row is in one of the slots
   pub inside : (slots : List (Option (ℕ × X))) (s id : ℕ) → is_some (row_in (slot_at slots s) id) ≡ true → s < length slots
   inside [] s id has = cc
   inside (x ∷ slots) zero id has = omega arith
@@ -287,7 +287,7 @@ module _ {X : Type 0} where
       let missing = looked_nowhere mask slots first id is.placed at none in
       (record { placed = is.placed; own = is.own; apart = apart_remove_list (filled slots) _ m id is.apart refl }, remove_in_list (filled slots) _ m id refl missing)
 
-  -- an id of the rest stands in no slot
+  -- an id of the rest is in no slot
   rest_nowhere : (mask : ℕ) (d : Bool) (slots : List (Option (ℕ × X))) (m : FinMap nat_cmp X) → IsSlotted mask d slots m → (id : ℕ) (row : X) → map.get m id ≡ Some row
       → (slot : ℕ) → row_in (slot_at slots slot) id ≡ None
   rest_nowhere mask d slots m is id row some slot = by (row_in (slot_at slots slot) id) refl
@@ -340,7 +340,7 @@ module _ {X : Type 0} where
       → find nat_cmp q (filled (take (k + 1) slots)) ≡ option_or (find nat_cmp q (filled (take k slots))) (row_in o q)
   found_after slots k q o lt is = found_next slots k q lt ∙ ap (λ o. option_or (find nat_cmp q (filled (take k slots))) (row_in o q)) (get_or_default slots k None o lt ∙ sym is)
 
-  -- what stands in the slots up to one more
+  -- what is in the slots up to one more
   pub slot_after : (slots : List (Option (ℕ × X))) (k : ℕ) (o : Option (ℕ × X)) → k < length slots → o ≡ slice_index_or slots k o
       → filled (take (k + 1) slots) ≡ filled (take k slots) ++ filled (o ∷ [])
   slot_after slots k o lt is = filled_next slots k lt ∙ ap (λ o. filled (take k slots) ++ filled (o ∷ [])) (get_or_default slots k None o lt ∙ sym is)
@@ -356,7 +356,7 @@ module _ {X : Type 0} where
       ap (λ es. before ++ each (λ e. e.0) es) (slot_after slots k o lt is) ∙ ap (λ l. before ++ l) (ids_append (filled (take k slots)) (filled (o ∷ [])))
       ∙ sym (append_assoc before (each (λ e. e.0) (filled (take k slots))) (each (λ e. e.0) (filled (o ∷ []))))
 
-  -- how often an id stands in the slots
+  -- how often an id is in the slots
   pub times_filled : (slots : List (Option (ℕ × X))) → StandOnce slots → (q : ℕ) → times q (each (λ e. e.0) (filled slots)) ≡ (if is_some (find nat_cmp q (filled slots)) then 1 else 0)
   times_filled [] once q = refl
   times_filled (None ∷ slots) once q = times_filled slots (λ i j e f at_i at_j same. let is = once (suc i) (suc j) e f at_i at_j same in omega (arith, is)) q

@@ -1,4 +1,4 @@
--- Lists of ids that rise, and how often an id stands in a list.
+-- Lists of ids that rise, and how often an id is in a list.
 use Rattle.std.proofs.Common.{◌≡◌, ◌≢◌, ℕ, zero, suc, ◌<◌, ◌≤◌, ◌+◌, ◌==◌, ◌&&◌, Bool, true, false, is_some, if◌then◌else◌, cond, List, [], ◌∷◌, ◌++◌, length, get_or, T, Some, refl, sym, ap, ◌∙◌, arith}
 use Rattle.std.specs.Prelude.{sum_by, map as each, slice_get, filter}
 use Rattle.std.specs.Ordering.{nat_cmp}
@@ -30,7 +30,7 @@ times_append x (y ∷ ys) zs = let a = times_cons x y (ys ++ zs) in let b = time
 pub times_moved : (x : ℕ) (ys zs : List ℕ) → IsPermutation ys zs → times x zs ≡ times x ys
 times_moved x ys zs moved = sum_by-IsPermutation (one x) ys zs moved
 
--- an id that stands in a list stands somewhere
+-- an id that is in a list stands somewhere
 somewhere : (xs : List ℕ) (x : ℕ) → 1 ≤ times x xs → (k : ℕ) × (slice_get xs k ≡ Some x)
 somewhere [] x some = absurd (omega (arith, some))
 somewhere (y ∷ ys) x some = by (y == x) refl (somewhere ys x)
@@ -43,7 +43,7 @@ somewhere (y ∷ ys) x some = by (y == x) refl (somewhere ys x)
         let rest = later (omega (arith, a, here, some)) in
         (suc rest.0, rest.1)
 
--- ids each of which stands once
+-- ids each of which occurs once
 once_at_most : (xs : List ℕ) → StandApart xs → (x : ℕ) → times x xs ≤ 1
 once_at_most [] apart x = omega arith
 once_at_most (y ∷ ys) apart x = by (y == x) refl (once_at_most ys (λ i j id at_i at_j. let same = apart (suc i) (suc j) id at_i at_j in omega (arith, same)) x)

@@ -1,4 +1,4 @@
--- What stands in other slots once they are spread anew.
+-- What is in other slots once they are spread anew.
 use Rattle.std.proofs.Common.{◌≡◌, ℕ, zero, suc, ◌<◌, nat_lt, if◌then◌else◌, is_some, ◌&&◌, Bool, true, false, subst, List, [], ◌∷◌, ◌++◌, length, ◌+◌, bit_and, slice_set, slice_index_or, take, Option, Some, None, refl, sym, ap, ◌∙◌, arith}
 use Rattle.std.specs.Option.{option_or}
 use Rattle.std.specs.Ordering.{nat_cmp}
@@ -35,7 +35,7 @@ module _ {X : Type 0} where
       not : (i : ℕ) (e : ℕ × X) → slot_at slots i ≡ Some e → ⊥
       not i e at = let none = empty i in grind (arith, none, at)
 
-  -- what stands in a slot is found
+  -- what is in a slot is found
   stands : (slots : List (Option (ℕ × X))) (i : ℕ) (e : ℕ × X) → slot_at slots i ≡ Some e → is_some (find nat_cmp e.0 (filled slots)) ≡ true
   stands [] i e at = cc
   stands (None ∷ slots) zero e at = cc
@@ -76,14 +76,14 @@ module _ {X : Type 0} where
   slot_take (x ∷ slots) (suc k) zero = grind (arith, nat_tests)
   slot_take (x ∷ slots) (suc k) (suc i) = let rest = slot_take slots k i in grind (arith, nat_tests, rest)
 
-  -- the id in a slot stands in none before it
+  -- the id in a slot is in none before it
   none_before : (slots : List (Option (ℕ × X))) (k : ℕ) (e : ℕ × X) → StandOnce slots → slot_at slots k ≡ Some e → find nat_cmp e.0 (filled (take k slots)) ≡ None
   none_before slots k e once at = none_filled (take k slots) e.0 (λ i f there same.
       let here = slot_take slots k i in
       let one = once i k f e in
       grind (arith, nat_tests, here, one, there, same, at))
 
-  -- what stands in the first k slots stands in other slots
+  -- what is in the first k slots is in other slots
   pub record IsSpread (mask : ℕ) (displaced : Bool) (slots wide : List (Option (ℕ × X))) (k : ℕ) : Type 0 where
     pub placed : ArePlaced mask wide
     pub own : displaced ≡ false → AreOwn mask wide

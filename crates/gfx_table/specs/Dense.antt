@@ -6,11 +6,11 @@ use Rattle.std.specs.FinMap as map
 use Rattle.std.specs.FinMap.{FinMap}
 use Rattle.gfx_table.specs.Values.{with_rows}
 
--- the id stands in the list
+-- the id is in the list
 abbrev pub is_listed : ℕ → List ℕ → Bool
 is_listed id ids = list_any (λ x. x == id) ids
 
--- each id stands once in the list
+-- each id occurs once in the list
 abbrev pub StandApart : List ℕ → Type 0
 StandApart ids = (i j id : ℕ) → slice_get ids i ≡ Some id → slice_get ids j ≡ Some id → i ≡ j
 
@@ -23,7 +23,7 @@ abbrev pub settled : FinMap nat_cmp ℕ → Option ℕ → ℕ → FinMap nat_cm
 settled places None place = places
 settled places (Some id) place = map.insert places id place
 
--- each id stands in the list at its place, and there is a row for each
+-- each id is in the list at its place, and there is a row for each
 pub record IsDense (ids : List ℕ) (count : ℕ) (places : FinMap nat_cmp ℕ) : Type 0 where
   pub found : (id place : ℕ) → map.get places id ≡ Some place → slice_get ids place ≡ Some id
   pub placed : (id place : ℕ) → slice_get ids place ≡ Some id → map.get places id ≡ Some place

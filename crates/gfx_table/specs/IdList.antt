@@ -16,7 +16,7 @@ pub record Ids : Type 0 where
 abbrev pub ids_code : Coded Ids
 ids_code = code_by (List ℕ × ℕ) (coded× (coded_list coded_ℕ) coded_ℕ) (λ s. (s.items, s.spare)) (λ p. record { items = p.0; spare = p.1 }) (λ _. refl)
 
--- the places of ids, the first of which stands at this one
+-- the places of ids, the first of which is at this one
 unfoldable pub places_from : ℕ → List ℕ → FinMap nat_cmp ℕ
 places_from place [] = map.empty
 places_from place (id ∷ ids) = map.insert (places_from (suc place) ids) id place
@@ -29,7 +29,7 @@ places_in ids = places_from 0 ids
 abbrev pub room : Bool → ℕ → ℕ → ℕ
 room is_placed free spare = cond is_placed (min free spare) free
 
--- each id stands once, and no place is kept, or those of all
+-- each id occurs once, and no place is kept, or those of all
 pub record IsPlaced (ids : List ℕ) (is_placed : Bool) (places : FinMap nat_cmp ℕ) : Type 0 where
   pub apart : StandApart ids
   pub kept : places ≡ cond is_placed (places_in ids) map.empty

@@ -1,4 +1,4 @@
--- Which ids a set holds, of which each 64 in a row stand in one word.
+-- Which ids a set holds, of which each 64 in a row are in one word.
 use Rattle.std.specs.Prelude.{ℕ, ◌/◌, ◌%◌, ◌==◌, Bool, false, Option, Some, None}
 use Rattle.std.specs.Int.{bit_at}
 use Rattle.std.specs.FinMap as map

@@ -8,6 +8,6 @@ use Rattle.std.specs.FinMap.{FinMap, entries}
 unfoldable pub joined : {X : Type 0} → List (ℕ × X) → FinMap nat_cmp X → FinMap nat_cmp X
 joined es m = map.from_entries (es ++ entries m)
 
--- no id stands in both
+-- no id is in both
 abbrev pub IsApart : {X : Type 0} → List (ℕ × X) → FinMap nat_cmp X → Type 0
 IsApart es m = (id : ℕ) → is_some (map.find nat_cmp id es) && is_some (map.get m id) ≡ false

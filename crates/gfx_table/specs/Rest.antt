@@ -4,7 +4,7 @@ use Rattle.std.specs.Ordering.{nat_cmp}
 use Rattle.std.specs.FinMap as map
 use Rattle.std.specs.FinMap.{FinMap}
 
--- where the mark of an id stands among so many: at its last bits, where their number is a power of two
+-- where the mark of an id is among so many: at its last bits, where their number is a power of two
 abbrev pub place_in : ℕ → ℕ → ℕ
 place_in marks id = bit_and id (marks - 1)
 

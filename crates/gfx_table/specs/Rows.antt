@@ -217,7 +217,7 @@ module _ {X : Type 0} where
   all_but_zero [] none = refl
   all_but_zero (e ∷ es) none = let rest = all_but_zero es in grind (arith, nat_tests, rest)
 
-  -- all ids stand above 0, where 0 is none of them
+  -- all ids are above 0, where 0 is none of them
   pub above-zero : (m : FinMap nat_cmp X) → map.get m 0 ≡ None → ids_above 0 m ≡ ids m
   above-zero m none = all_but_zero (entries m) (sym (get-entries m 0) ∙ none)
 

@@ -29,12 +29,12 @@ IsRising es = T (is_sorted nat_cmp es)
 abbrev pub map_of : {X : Type 0} → List (ℕ × X) → FinMap nat_cmp X
 map_of es = map.from_sorted es
 
--- how many entries at the front have a smaller id
+-- how many entries at the start have a smaller id
 abbrev pub place : {X : Type 0} → ℕ → List (ℕ × X) → ℕ
 place id [] = 0
 place id (e ∷ es) = if nat_lt e.0 id then suc (place id es) else 0
 
--- the id has an entry, which stands at the place i
+-- the id has an entry, which is at the place i
 pub record IsFoundAt {X : Type 0} (es : List (ℕ × X)) (id i : ℕ) : Type 0 where
   pub in_range : i < length es
   pub is_place : place id es ≡ i

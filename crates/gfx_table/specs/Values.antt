@@ -1,4 +1,4 @@
--- A map with each row changed or let go, by a function of the id and the row.
+-- A map with each row changed or dropped, by a function of the id and the row.
 use Rattle.std.specs.Prelude.{◌≡◌, ℕ, ◌≤◌, Bool, List, [], ◌∷◌, T, Option, Some, None, option_and_then, option_map, filter_map, if◌then◌else◌, refl}
 use Rattle.std.proofs.Common.{ap, sym, ◌∙◌, arith}
 use Rattle.std.specs.Ordering.{nat_cmp}
@@ -39,7 +39,7 @@ module _ {X Y : Type 0} (change : ℕ → X → Option Y) where
       let same : q ≡ e.0 → change q e.1 ≡ change e.0 e.1 = λ s. rw s in
       grind (arith, nat_tests, here, same)
 
-  -- the map with each row changed, or let go where the function gives none
+  -- the map with each row changed, or dropped where the function gives none
   pub with_rows : FinMap nat_cmp X → FinMap nat_cmp Y
   with_rows m = from_sorted (filter_map changed (entries m))
 

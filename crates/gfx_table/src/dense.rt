@@ -1,4 +1,7 @@
 //! Rows under ids that stand one after another, each of which is changed in its place.
+//!
+//! A row that goes leaves its place to the last one. Up to eight ids are searched in order; beyond that the place of
+//! each is kept in slots.
 ghost use Rattle.std.specs.Prelude.{◌≡◌, ℕ, ◌+◌, ◌≤◌, is_some, IsSome, OnOk, None};
 ghost use Rattle.std.specs.Option.{option_copied, option_copied_mut};
 ghost use Rattle.std.specs.Borrow.{LendsIf, sem};
@@ -99,7 +102,7 @@ impl<V: Drop> Dense<V> {
         }
     }
 
-    /// Takes the row under the id out. The last one stands in its place then.
+    /// Takes the row under the id out. The last one is in its place then.
     pub fn remove(&mut self, id: u64) -> Option<V>
         ensures value { result ≡ map.get self.old.map id }
         ensures map { self.new.map ≡ map.remove self.old.map id }

@@ -1,5 +1,5 @@
 //! Sets of ids under ids.
-ghost use Rattle.std.specs.Prelude.{◌≡◌, ℕ, ◌+◌, ◌≤◌, ◌==◌, ◌&&◌, ◌||◌, false, OnOk, if◌then◌else◌};
+ghost use Rattle.std.specs.Prelude.{◌≡◌, ℕ, ◌+◌, ◌≤◌, ◌==◌, ◌&&◌, ◌||◌, true, false, OnOk, if◌then◌else◌};
 ghost use Rattle.gfx_table.specs.Dense.{is_listed, StandApart};
 ghost use Rattle.gfx_table.specs.Groups.{is_member, room_in};
 
@@ -72,9 +72,11 @@ impl Groups {
         }
     }
 
-    /// Takes the id out of the set.
+    /// Takes the id out of the set. The room for new members stays, except that of a set whose last member this was.
     pub fn remove(&mut self, group: u64, id: u64)
-        ensures { is_member self.new.sets.map ≡ (λ g x. if group == g && id == x then false else is_member self.old.sets.map g x) }
+        ensures members { is_member self.new.sets.map ≡ (λ g x. if group == g && id == x then false else is_member self.old.sets.map g x) }
+        ensures left { (g x : ℕ) → is_member self.new.sets.map g x ≡ true → room_in self.old.sets.map g ≤ room_in self.new.sets.map g }
+        ensures others { (g : ℕ) → (group == g) ≡ false → room_in self.old.sets.map g ≤ room_in self.new.sets.map g }
     {
         let Some(set) = self.sets.get_mut(group) else {
             return;
@@ -85,9 +87,10 @@ impl Groups {
         }
     }
 
-    /// Takes all ids out of the set, and the room that it has.
+    /// Takes all ids out of the set, and drops its room for new members.
     pub fn close(&mut self, group: u64)
-        ensures { is_member self.new.sets.map ≡ (λ g x. if group == g then false else is_member self.old.sets.map g x) }
+        ensures members { is_member self.new.sets.map ≡ (λ g x. if group == g then false else is_member self.old.sets.map g x) }
+        ensures others { (g : ℕ) → (group == g) ≡ false → room_in self.old.sets.map g ≤ room_in self.new.sets.map g }
     {
         let _set = self.sets.remove(group);
     }

@@ -96,7 +96,7 @@ impl IdList {
         self.ids.push_reserved(id);
     }
 
-    /// Takes the id at a place out. The last one stands there then.
+    /// Takes the id at a place out. The last one is there then.
     pub(crate) fn swap_remove(&mut self, place: usize) -> u64
         requires { place < length self.old.items }
         ensures value { result ≡ slice_index_or self.old.items place result }
@@ -123,7 +123,7 @@ impl IdList {
     }
 }
 
-// Where the id stands among these.
+// Where the id is among these.
 fn place_among(ids: &[u64], id: u64) -> Option<usize>
     ensures some { IfSome result (λ place. slice_get ids.now place ≡ Some id) }
     ensures none { result ≡ None → is_listed id ids.now ≡ false }
@@ -160,7 +160,7 @@ fn forget(ids: &[u64], places: &mut Slotted<usize>)
     }
 }
 
-// What stands at this place among the ids, where something does, gets this place in place of the one that it has.
+// What is at this place among the ids, where something does, gets this place in place of the one that it has.
 fn settle(ids: &[u64], places: &mut Slotted<usize>, place: usize)
     requires { (id : ℕ) → slice_get ids.now place ≡ Some id → IsSome (map.get places.old.map id) }
     ensures map { places.new.map ≡ settled places.old.map (slice_get ids.now place) place }

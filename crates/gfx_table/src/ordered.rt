@@ -1,5 +1,6 @@
 //! A table of rows under ids.
-ghost use Rattle.std.specs.Prelude.{◌≡◌, ◌+◌, ◌≤◌, ◌↔◌, ◌++◌, IsTrue, IsSome, OnOk, None};
+ghost use Rattle.std.specs.Prelude.{◌≡◌, ◌+◌, ◌≤◌, ◌↔◌, ◌++◌, IsTrue, IsSome, OnOk, OnErr, None, length};
+ghost use Rattle.std.specs.Io.{StartsWith};
 ghost use Rattle.std.specs.Option.{option_copied};
 ghost use Rattle.std.specs.FinMap as map;
 ghost use Rattle.gfx_table.specs.Slots.{least_above};
@@ -76,7 +77,7 @@ impl<V: Drop> Table<V> {
         }
     }
 
-    /// Puts a row under the id, and gives back the one that stood there. A new id takes one of the spare places.
+    /// Puts a row under the id, and gives back the one that was there. A new id takes one of the spare places.
     pub fn replace(&mut self, id: u64, row: V) -> Option<V>
         requires { map.get self.old.map id ≡ None → 1 ≤ self.old.spare }
         ensures value { result ≡ map.get self.old.map id }
@@ -93,7 +94,7 @@ impl<V: Drop> Table<V> {
         }
     }
 
-    /// Puts a row under the id, as `replace` does, and lets go of the one that stood there.
+    /// Puts a row under the id, as `replace` does, and drops the one that was there.
     pub fn set(&mut self, id: u64, row: V)
         requires { map.get self.old.map id ≡ None → 1 ≤ self.old.spare }
         ensures map { self.new.map ≡ map.insert self.old.map id row }
@@ -115,9 +116,11 @@ impl<V: Drop> Table<V> {
         }
     }
 
-    /// Appends the ids, rising.
+    /// Appends the ids, rising. After an error the first of them are appended, those that found memory.
     pub(crate) fn push_ids(&self, ids: &mut Vec<u64>) -> Result<(), AllocError>
-        ensures { OnOk result (ids.new.items ≡ ids.old.items ++ map.keys self.now.map) }
+        ensures ok { OnOk result (ids.new.items ≡ ids.old.items ++ map.keys self.now.map) }
+        ensures err { OnErr result (StartsWith (ids.old.items ++ map.keys self.now.map) ids.new.items) }
+        ensures kept { length ids.old.items ≤ length ids.new.items }
     {
         if self.get(0).is_some() {
             ids.push(0)?;

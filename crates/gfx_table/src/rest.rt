@@ -1,4 +1,7 @@
 //! Rows that found no slot, with marks that tell most ids which aren't among them.
+//!
+//! An id whose last bits have no mark isn't in the table, so most scattered ids that aren't there are not sought in
+//! it.
 ghost use Rattle.std.specs.Prelude.{◌≡◌, ◌+◌, ◌≤◌, ◌++◌, ℕ, true, IsSome, OnOk, None};
 ghost use Rattle.std.specs.Option.{option_copied};
 ghost use Rattle.std.specs.FinMap as map;
@@ -108,7 +111,7 @@ impl<V: Copy> Rest<V> {
     }
 }
 
-// Where the mark of an id stands among so many: at its last bits.
+// Where the mark of an id is among so many: at its last bits.
 fn place_of(id: u64, marks: usize) -> usize
     ensures { result ≡ place_in marks id }
 {

@@ -1,4 +1,6 @@
 //! A place for one row and its id, and many of them.
+//!
+//! The id 0 marks a free slot, which keeps a slot at 16 bytes in place of 24.
 ghost use Rattle.std.specs.Prelude.{◌≡◌, ◌≢◌, ◌<◌, ◌↔◌, ℕ, length, true, false, IsTrue, Some, None, IsSome, IfSome, IfOk};
 ghost use Rattle.std.specs.Option.{option_copied};
 ghost use Rattle.gfx_table.specs.Slotted.{slot_at, row_in};
@@ -98,7 +100,7 @@ pub(crate) fn in_slot<V: Copy + Default>(slots: &[Slot<V>], id: u64, slot: usize
     }
 }
 
-/// Whether there is such a slot, and nothing stands in it.
+/// Whether there is such a slot, and nothing is in it.
 pub(crate) fn is_free<V: Copy + Default>(slots: &[Slot<V>], slot: usize) -> bool
     ensures inside { result ≡ true → slot < length slots.now }
     ensures free { result ≡ true → slot_at slots.now slot ≡ None }

@@ -1,4 +1,8 @@
 //! Small rows under ids, which are found at once where the ids lie close together.
+//!
+//! The last bits of an id choose a group of eight slots, and the slot to look at first; a row whose group is full goes
+//! to a sorted table. Ids that programs draw are found at one look, and no ids that a file chooses cost more than
+//! eight looks and the table: there is no hash to defeat.
 ghost use Rattle.std.specs.Prelude.{◌≡◌, ◌≢◌, ℕ, ◌+◌, ◌<◌, ◌≤◌, ◌++◌, true, false, length, bit_and, slice_set, is_some, IsSome, IfSome, IfOk, OnOk, Some, None, map as each};
 ghost use Rattle.std.specs.Option.{option_copied, option_or};
 ghost use Rattle.std.specs.Ordering.{nat_cmp};
@@ -11,10 +15,10 @@ use std::alloc::{AllocError, Global};
 use std::marker::Model;
 use std::mem;
 
-// So many slots stand together, and an id may stand in any of those to which its bits lead.
+// So many slots stand together, and an id may occur in any of those to which its bits lead.
 const GROUP: usize = 8;
 
-/// Small rows under ids, in no order. The last bits of an id tell a group of slots, and a row whose group is full stands in a
+/// Small rows under ids, in no order. The last bits of an id tell a group of slots, and a row whose group is full is in a
 /// table. So of ids that lie close together, as programs draw them, each has a slot of its own, of ids drawn at random few go
 /// into the table, and no ids cost more than the table does.
 #[derive(Drop)]
@@ -24,7 +28,7 @@ pub struct Slotted<V: Copy> {
     mask: u64,
     // how many slots are taken
     taken: usize,
-    // whether an id may stand in another slot of its group than its own
+    // whether an id may occur in another slot of its group than its own
     displaced: bool,
     rest: Rest<V>,
     alloc: Global,
@@ -67,7 +71,7 @@ impl<V: Copy + Default> Slotted<V> {
         ensures spare { self.old.spare ≤ self.new.spare }
     {
         self.rest.reserve(more)?;
-        // One slot for each row while each id stands in its own, and else as many that are free.
+        // One slot for each row while each id is in its own, and else as many that are free.
         let rows = self.taken.saturating_add(more);
         let wanted = rows.saturating_mul(1 + usize::from(self.displaced));
         if wanted > self.slots.len() {
@@ -212,7 +216,7 @@ impl<V: Copy + Default> Slotted<V> {
     }
 }
 
-// The bits that tell a group, where so many slots are wanted.
+// The bits that tell a group, where so many slots are needed.
 fn mask_over(slots: usize) -> u64 {
     let all = u64::MAX
         .checked_shr((slots as u64).saturating_sub(1).leading_zeros())
@@ -235,7 +239,7 @@ fn own_of(id: u64, first: usize) -> usize
     first.saturating_add(id as usize % GROUP)
 }
 
-// Whether an id is displaced, once this one stands in a slot.
+// Whether an id is displaced, once this one is in a slot.
 fn displaces(displaced: bool, slot: usize, first: usize, id: u64) -> bool
     ensures { result ≡ false → (displaced ≡ false) × (slot ≡ own_slot first id) }
 {
@@ -330,7 +334,7 @@ fn put<V: Copy + Default>(slots: &mut Vec<Slot<V>>, taken: &mut usize, slot: usi
     }
 }
 
-// Puts what stands in the slots into more slots, where there is one for each, and says whether an id is displaced there.
+// Puts what is in the slots into more slots, where there is one for each, and says whether an id is displaced there.
 fn spread<V: Copy + Default>(slots: &[Slot<V>], mask: u64, wide: &mut Vec<Slot<V>>) -> Option<bool>
     requires once { StandOnce slots.now }
     requires free { (i : ℕ) → slot_at wide.old.items i ≡ None }
@@ -366,7 +370,7 @@ fn spread_one<V: Copy + Default>(
     Some(slot)
 }
 
-// Appends the ids of what stands in the slots.
+// Appends the ids of what is in the slots.
 fn push_taken<V: Copy + Default>(ids: &mut Vec<u64>, slots: &[Slot<V>]) -> Result<(), AllocError>
     ensures { OnOk result (ids.new.items ≡ ids.old.items ++ each (λ e. e.0) (filled slots.now)) }
 {

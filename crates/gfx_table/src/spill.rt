@@ -63,7 +63,7 @@ impl<V: Drop> SpillList<V> {
         self.entries.reserve(more)
     }
 
-    /// How many rows stand here.
+    /// How many rows are here.
     pub(crate) fn len(&self) -> usize
         ensures len { result ≡ map.len self.now.map }
         ensures small { result < 2 ^ 63 }
@@ -81,14 +81,14 @@ impl<V: Drop> SpillList<V> {
         }
     }
 
-    /// Whether a row stands under the id.
+    /// Whether a row is under the id.
     pub(crate) fn contains(&self, id: u64) -> bool
         ensures { result ≡ map.contains_key self.now.map id }
     {
         self.get(id).is_some()
     }
 
-    /// Puts a row in the place of the id, and gives back the one that stood there. It takes no memory.
+    /// Puts a row in the place of the id, and gives back the one that was there. It takes no memory.
     pub(crate) fn replace(&mut self, id: u64, row: V) -> Option<V>
         requires { map.get self.old.map id ≡ None → 1 ≤ self.old.spare }
         ensures value { result ≡ map.get self.old.map id }

@@ -1,4 +1,7 @@
 //! Large rows under ids, each of which stays where it was put.
+//!
+//! Rows are in a slab and only their keys in slots, so that a look at a scattered id touches one small slot and one
+//! row.
 ghost use Rattle.std.specs.Prelude.{◌≡◌, ◌+◌, ◌≤◌, IsSome, IfOk, OnOk, None};
 ghost use Rattle.std.specs.Option.{option_copied};
 ghost use Rattle.std.specs.FinMap as map;
@@ -8,7 +11,7 @@ use slab::Slab;
 use std::alloc::{AllocError, Global};
 use std::marker::Model;
 
-/// Large rows under ids, in no order. The rows stand in a slab, and only their keys are sought, so that of ids drawn at random few bytes
+/// Large rows under ids, in no order. The rows are in a slab, and only their keys are sought, so that of ids drawn at random few bytes
 /// are gone over.
 #[derive(Drop)]
 pub struct Stored<V: Copy> {

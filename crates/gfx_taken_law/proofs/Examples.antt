@@ -23,7 +23,7 @@ again_is_taken : fault ended (CreateInstance 5 1) ≡ Some IdTaken
 unfolding opened ended
 again_is_taken = refl
 
--- an id that stands twice in one call is taken too, although no event before created it
+-- an id that occurs twice in one call is taken too, although no event before created it
 pool : List Event
 pool = CreateCommandPool 2 3 0 ∷ CreateDevice 1 2 ∷ CreateInstance 1 1 ∷ []
 

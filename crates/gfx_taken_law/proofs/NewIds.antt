@@ -1,4 +1,4 @@
--- A check for new ids has the fault that an id is taken only where one of them was used, if no id stands twice.
+-- A check for new ids has the fault that an id is taken only where one of them was used, if no id occurs twice.
 use Rattle.std.proofs.Common.{◌≡◌, ℕ, Bool, true, false, refl, ◌∙◌, ap, List, [], ◌∷◌, Option, Some, None, not, ◌==◌, ◌&&◌, ◌⊎◌, inl, inr}
 use Rattle.std.specs.List.{AllByRecursion}
 use Rattle.std.proofs.lemmas.Bool.{eqb-true, eq-eqb, both_ways, not-true, and_parts, or_left, or_right, or_from, false_from_ne_true}

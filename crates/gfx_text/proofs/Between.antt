@@ -7,7 +7,7 @@ use Rattle.gfx_text_grammar.specs.Reading.{behind, read_between, read_as}
 abbrev built : {X Y : Type 0} → (X → Y) → Option (X × List ℕ) → Option (Y × List ℕ)
 built build read = read >>= λ x. Some (build x.0, x.1)
 
--- what is built between two bytes is built of what stands between them
+-- what is built between two bytes is built of what is between them
 between_as : {X Y : Type 0} (front back : ℕ) (build : X → Y) (r : Reader X) (text : List ℕ)
     → read_between front back (read_as build r) text ≡ built build (read_between front back r text)
 unfolding read_between read_as

@@ -16,7 +16,7 @@ use Rattle.gfx_text_grammar.specs.FieldReading.{without_front}
 abbrev pub ends : ℕ → Bool
 ends c = not (is_letter_or_digit c)
 
--- a word is what stands before its end
+-- a word is what is before its end
 pub word_is : (text : List ℕ) → word_of text ≡ take (position_or_len ends text) text
 word_is [] = refl
 word_is (c ∷ cs) = by (is_letter_or_digit c) (word_is cs)
@@ -63,7 +63,7 @@ fronts_join (c ∷ cs) b text = by (λ t. fronts_join cs b t) (behind c text)
     by more None = refl
     by more (Some t) = more t
 
--- a front is cut off exactly where it stands there
+-- a prefix is cut off exactly where it is there
 pub front_matches : {R : Type 0} (now : R → List ℕ) (front text : List ℕ) (r : Option R)
     → MatchOption r (pointwise nat_eq (take (length front) text) front ≡ false)
     (λ x. (pointwise nat_eq (take (length front) text) front ≡ true) × (now x ≡ drop (length front) text) × (length (now x) + length front ≡ length text))

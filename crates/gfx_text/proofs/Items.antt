@@ -51,7 +51,7 @@ module _ {X : Type 0} (r : Reader X) (front : List X) (count i : ℕ) (text : Li
   left : count - i ≡ suc (count - (i + 1))
   left = omega (arith, turn)
 
-  -- what an item and what stands behind it give
+  -- what an item and what follows it give
   after_item : (x : X) (after : List ℕ) → r text ≡ Some (x, after)
       → with_front (front ++ x ∷ []) (read_more (read_items r (count - (i + 1))) after) ≡ total
   unfolding read_items

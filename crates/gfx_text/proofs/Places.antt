@@ -18,11 +18,11 @@ same_bytes [] (y ∷ ys) = refl
 same_bytes (x ∷ xs) [] = refl
 same_bytes (x ∷ xs) (y ∷ ys) = ap (λ b. nat_eq x y && b) (same_bytes xs ys)
 
--- how many names stand before this one
+-- how many names are before this one
 abbrev before : {R : Type 0} → (R → List ℕ) → List ℕ → List R → ℕ
 before now name names = prefix_len (λ n. not (pointwise nat_eq (now n) name)) names
 
--- the position of a name in front of n others, of which so many stand before it
+-- the position of a name before n others, of which so many are before it
 abbrev found : (is : Bool) (n len : ℕ) → Option ℕ
 found is n len = cond (nat_lt (cond (not is) (1 + len) 0) (suc n)) (Some (cond (not is) (1 + len) 0)) None
 
@@ -51,7 +51,7 @@ place_is {R} now name (n ∷ names) =
     by true h = found_first (length names) (before now name names)
     by false h = found_later (length names) (before now name names) _ refl ∙ ap (λ (o : Option ℕ). o >>= λ i. Some (i + 1)) h
 
--- and stands below the end
+-- and is below the end
 place_below : (names : List (List ℕ)) (name : List ℕ) (i : ℕ) → place_of names name ≡ Some i → i < length names
 place_below [] name i is = absurd cc
 place_below (n ∷ names) name i is = by (λ j e. place_below names name j e) (same_list n name) (place_of names name) refl is

@@ -10,7 +10,7 @@ use Rattle.gfx_text.specs.declared.fault.TextFault.TheVariants.{Bad, WantMemory}
 abbrev pub Reads : {X Y : Type 0} → Option X → (X → Y) → Option Y → Type 0
 Reads value seen read = MatchOption value (read ≡ None) (λ x. read ≡ Some (seen x))
 
--- a bad text is exactly what is not read; memory may be wanted at any time
+-- a bad text is exactly what is not read; memory may be needed at any time
 abbrev pub Fails : {Y : Type 0} → TextFault → Option Y → Type 0
 Fails Bad read = read ≡ None
 Fails WantMemory read = Unit {0}

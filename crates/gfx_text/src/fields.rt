@@ -1,4 +1,4 @@
-// Fields of a line: the ids that stand apart, and tokens `field=value`.
+// Fields of a line: the ids that are written apart, and tokens `field=value`.
 ghost use Rattle.std.specs.Prelude.{◌≡◌, ℕ, List, IfOk, ◌&&◌};
 ghost use Rattle.gfx_script_model.specs.Statements.{is_empty};
 ghost use Rattle.gfx_text_grammar.specs.Reading.{Style, read_id, read_ids};
@@ -13,7 +13,7 @@ use crate::words::{behind, without_front};
 use gfx_types::Ids;
 use std::alloc::{AllocError, Global};
 
-/// What is not read yet of a line: the texts of ids that stand apart, and the fields.
+/// What is not read yet of a line: the texts of ids that are written apart, and the fields.
 #[derive(Clone, Copy)]
 pub struct Left<'t> {
     pub made: &'t [&'t [u8]],

@@ -1,4 +1,7 @@
 // How ids are read and shown.
+//
+// How ids are written is a parameter of reading and showing, so each field, record and row is proved once for scripts
+// and for listings.
 ghost use Rattle.std.specs.Prelude.{◌≡◌, ℕ, Bool};
 ghost use Rattle.gfx_text_grammar.specs.Reading.{Style};
 ghost use Rattle.gfx_text_grammar.specs.Styles.{numbered};
@@ -10,7 +13,7 @@ pub trait ReadId {
     /// The style of their texts, in which each id is read as the number that the program has for it.
     ghost style: { Self → Style };
 
-    /// Whether the ids that a call makes stand apart, left of its fields.
+    /// Whether the ids that a call makes are written apart, left of its fields.
     fn apart(&self) -> bool
         ensures { result ≡ (style self.now).ids.apart };
 
@@ -23,7 +26,7 @@ pub trait ReadId {
         ensures { result ≡ (style self.now).read_maybe word.now };
 }
 
-/// The ids of a listing: numbers in decimal, which stand among the fields.
+/// The ids of a listing: numbers in decimal, which are among the fields.
 #[derive(Clone, Copy, Debug, PartialEq, Eq)]
 pub struct Numbered;
 

@@ -18,7 +18,7 @@ use gfx_types::{
 };
 use std::alloc::{AllocError, Global};
 
-/// The list at the front of the text, and the text behind it: fewer than 2^32 items.
+/// The list at the start of the text, and the text behind it: fewer than 2^32 items.
 #[tactic(auto, unfolding(gfx_text_grammar::specs::Reading::read_list))]
 fn read_list<'t, T: ReadValue, I: ReadId>(
     alloc: Global,

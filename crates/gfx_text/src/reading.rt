@@ -15,7 +15,7 @@ use crate::values::{Bytes, Maybe, Wide};
 use gfx_types::{Call, Ids, Meta, Numbers, Present, Presents, Submits, calls, in_order, metas};
 use std::alloc::{AllocError, Global};
 
-/// The section of this name, handed on.
+/// The section of this name, passed on.
 macro_rules! section {
     (devices $to:tt; devices { $($rows:tt)* } $($others:tt)*) => { rows! { $to $($rows)* } };
     (memory $to:tt; memory { $($rows:tt)* } $($others:tt)*) => { rows! { $to $($rows)* } };

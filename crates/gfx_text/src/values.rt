@@ -1,4 +1,4 @@
-// Values at the front of a text.
+// Values at the start of a text.
 ghost use Rattle.std.specs.Prelude.{◌≡◌, ℕ, List, IfOk};
 ghost use Rattle.gfx_grammar.specs.Reading.{Reader};
 ghost use Rattle.gfx_text_grammar.specs.Reading.{Style, read_word, read_id, read_maybe, read_u32, read_u64, read_raw, read_between, ◌⊗◌};
@@ -19,7 +19,7 @@ pub(crate) trait ReadValue: Sized + Drop {
     /// How the grammar reads it.
     ghost reader: { Style → Reader Seen };
 
-    /// The value at the front of the text, and the text behind it. None where no value stands there.
+    /// The value at the start of the text, and the text behind it. None where no value is there.
     fn read<'t, I: ReadId>(
         alloc: Global,
         ids: &I,

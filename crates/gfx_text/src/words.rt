@@ -10,7 +10,7 @@ ghost use Rattle.gfx_text.specs.Gives.{Reads};
 
 use std::alloc::{AllocError, Global};
 
-/// The word at the front of a text, as long as can be, and the text behind it.
+/// The word at the start of a text, as long as can be, and the text behind it.
 pub(crate) fn cut_word(text: &[u8]) -> (&[u8], &[u8])
     ensures word { result.0.now ≡ word_of text.now }
     ensures rest { result.1.now ≡ after_word text.now }
@@ -18,7 +18,7 @@ pub(crate) fn cut_word(text: &[u8]) -> (&[u8], &[u8])
     text.split_at(word_length(text))
 }
 
-/// How many letters, digits and _ stand at the front.
+/// How many letters, digits and _ are at the start.
 fn word_length(text: &[u8]) -> usize
     ensures { result ≡ position_or_len (λ c. not (is_letter_or_digit c)) text.now }
 {
@@ -41,7 +41,7 @@ fn is_letter_or_digit(c: u8) -> bool
     c == b'_' || (97 <= c && c <= 122) || (48 <= c && c <= 57)
 }
 
-/// The text behind this byte, None where another stands at the front.
+/// The text behind this byte, None where another is at the start.
 pub(crate) fn behind(byte: u8, text: &[u8]) -> Option<&[u8]>
     ensures { MatchOption result (behind byte text.now ≡ None) (λ rest. behind byte text.now ≡ Some rest.now) }
 {
@@ -51,7 +51,7 @@ pub(crate) fn behind(byte: u8, text: &[u8]) -> Option<&[u8]>
     }
 }
 
-/// The text behind this front, None where another stands there.
+/// The text after this prefix, None where another is there.
 pub(crate) fn without_front<'t>(front: &[u8], text: &'t [u8]) -> Option<&'t [u8]>
     ensures { MatchOption result (without_front front.now text.now ≡ None) (λ rest. without_front front.now text.now ≡ Some rest.now) }
 {
@@ -72,7 +72,7 @@ pub fn number_of(word: &[u8]) -> Option<u64>
     Some(number)
 }
 
-/// The same of a number below 2^32.
+/// The number below 2^32 that a word is in decimal, without a leading zero.
 pub(crate) fn short_number_of(word: &[u8]) -> Option<u32>
     ensures { result ≡ number_in (2 ^ 32) word.now }
 {
@@ -82,7 +82,7 @@ pub(crate) fn short_number_of(word: &[u8]) -> Option<u32>
     }
 }
 
-/// Whether a digit stands in front, and no zero but a zero alone.
+/// Whether a digit is first, and no zero but a zero alone.
 fn is_plain(word: &[u8]) -> bool
     ensures { result ≡ is_plain word.now }
 {

@@ -1,4 +1,4 @@
--- Laws of fields: a token, ids that stand apart, and fields one after the other.
+-- Laws of fields: a token, ids that are written apart, and fields one after the other.
 use Rattle.std.proofs.Common.{◌≡◌, ℕ, ◌≤◌, nat_eq, ◌&&◌, Bool, true, false, List, [], ◌∷◌, ◌++◌, length, map, Option, Some, refl, sym, ap, subst, ◌∙◌, arith, append-nil, codes}
 use Rattle.std.proofs.lemmas.Option.{cond_some}
 use Prim.Native.String.{String}
@@ -95,7 +95,7 @@ reads_field {X} {s} name v {r} p here = record {
 
 -- ---- ids that the call creates
 
--- either they stand apart, or they do not
+-- either they are written apart, or they are not
 made_apart : {X : Type 0} {s : Style} (name : String) (v : X → Value) (r : Reader X) (value : List ℕ → Option X)
     → s.ids.apart ≡ true → ((x : X) → is_made (v x) ≡ true)
     → ((text : List ℕ) (x : X) → value text ≡ Some x → (text ≡ made_text s (v x)) × ValueFits s.ids (v x))

@@ -66,7 +66,7 @@ reads_pair = record {
 abbrev OptionsFit : List (ℕ × ℕ) → Type 0
 OptionsFit os = AllByRecursion OptionFits os
 
--- the options behind a front are shown
+-- the options after a prefix are shown
 options_shown : (front : List ℕ) (at : ℕ) (os : List (ℕ × ℕ)) → length front ≡ at → OptionsFit os → option_texts (front ++ flat_map option_bytes os) at (length os) ≡ map option_text os
 options_shown front at [] long fits = refl
 options_shown front at (o ∷ os) long fits =

@@ -140,7 +140,7 @@ splits_made m at bytes (w ∷ ws) fit is =
       parts = ((block, fits.0), next.parts);
     }
 
--- the header at the front of a file
+-- the header at the start of a file
 front_header : (bytes : List ℕ) → header_fault bytes ≡ None → IsHeader (take (header_length bytes) bytes) × (minor_of (take (header_length bytes) bytes) ≡ minor_of bytes)
     × (first_position (take (header_length bytes) bytes) ≡ first_position bytes)
 front_header bytes good =
@@ -214,7 +214,7 @@ by_header bytes ws fit is (Some f) fault = absurd (let same = sym (blocks_of-bad
 pub listing_again : (bytes : List ℕ) (ws : List Whole) → AreBytes bytes → blocks_of bytes ≡ record { items = ws; end = clean } → IsAgain bytes ws
 listing_again bytes ws fit is = by_header bytes ws fit is (header_fault bytes) refl
 
--- ---- fronts of listings
+-- ---- prefixes of listings
 
 each_front : {X : Type 0} (read : List ℕ → Option X) (ts us : List (List ℕ)) (xs : List X) → each_read read (ts ++ us) ≡ Some xs
     → (ys zs : List X) × (each_read read ts ≡ Some ys) × (xs ≡ ys ++ zs)

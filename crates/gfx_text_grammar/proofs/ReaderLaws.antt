@@ -142,7 +142,7 @@ reads_record build parts {r} {t} {f} p there back =
 abbrev items_text : {X : Type 0} → (X → List ℕ) → List X → List ℕ
 items_text t xs = join_with_byte 44 (map t xs) ++ 93 ∷ []
 
--- what stands behind the first of them
+-- what follows the first of them
 abbrev more_text : {X : Type 0} → (X → List ℕ) → List X → List ℕ
 more_text t [] = 93 ∷ []
 more_text t (x ∷ xs) = 44 ∷ items_text t (x ∷ xs)
@@ -222,7 +222,7 @@ list_end_takes {X} r t f p (c ∷ text) xs rest is = by (c == 93) refl is
         (ap (λ n. n ∷ text) (eqb-true c 93 e), tt)
     by false e q = let h = items_takes r t f p (suc (length text)) (c ∷ text) xs rest q in (h.0, h.1)
 
--- an item in front is no closing bracket
+-- an item at the start is no closing bracket
 list_end_again : {X : Type 0} (r : Reader X) (text rest : List ℕ) → begins_item text ≡ true → read_list_end r (text ++ rest) ≡ read_items r (length (text ++ rest)) (text ++ rest)
 list_end_again r [] rest is = absurd cc
 list_end_again r (c ∷ text) rest is = by (c == 93) is

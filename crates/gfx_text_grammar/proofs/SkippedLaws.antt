@@ -66,7 +66,7 @@ kind_named name k is =
       ])
     ]
 
--- a message has its id in front
+-- a message has its id before it
 message_skipped : (bs : List ℕ) → is_skipped 3 (to_le_bytes w32 1 ++ bs) ≡ true
 message_skipped bs = ap (λ b. b && true) (le-leb 4 (length (to_le_bytes w32 1 ++ bs)) (omega (arith, length-append (to_le_bytes w32 1) bs)))
 

@@ -29,7 +29,7 @@ use Rattle.gfx_text_grammar.proofs.Lists.{same_list-true}
 use Rattle.gfx_text_grammar.proofs.StyleLaws.{named_style, name_letters, name_long, fields_named}
 use Rattle.gfx_text_grammar.proofs.ValueLaws.{letter_begins}
 
--- ---- the texts of fields where made ids stand apart
+-- ---- the texts of fields where made ids are written apart
 
 abbrev others : List Named → List Named
 others fs = filter (λ f. not (is_made f.value)) fs

@@ -1,4 +1,4 @@
--- Reading of fields: the ids that stand apart, and tokens `field=value`.
+-- Reading of fields: the ids that are written apart, and tokens `field=value`.
 use Rattle.std.specs.Prelude.{◌≡◌, ℕ, ◌&&◌, if◌then◌else◌, List, [], ◌∷◌, ◌++◌, map, Option, Some, None, codes}
 use Prim.Native.String.{String}
 use Rattle.std.specs.List.{join_with_byte}
@@ -12,11 +12,11 @@ use Rattle.gfx_model.specs.Events.{Event}
 use Rattle.gfx_model.specs.Spelling.{IsOfVersion, type_of}
 use Rattle.gfx_script_model.specs.EventNames.{event_name}
 
--- what is not read yet: the texts of ids that stand apart, and the tokens
+-- what is not read yet: the texts of ids that are written apart, and the tokens
 abbrev pub Left : Type 0
 Left = List (List ℕ) × List (List ℕ)
 
--- what is read of the front, and what is left
+-- what is read of the prefix, and what is left
 abbrev pub FieldReader : Type 0 → Type 0
 FieldReader X = Left → Option (X × Left)
 
@@ -24,7 +24,7 @@ FieldReader X = Left → Option (X × Left)
 unfoldable pub whole : {X : Type 0} → Reader X → List ℕ → Option X
 whole r text = r text >>= λ x. if_none_left x.0 x.1
 
--- the text behind this front
+-- the text after this prefix
 abbrev pub without_front : List ℕ → List ℕ → Option (List ℕ)
 without_front [] text = Some text
 without_front (c ∷ cs) text = behind c text >>= without_front cs
@@ -42,16 +42,16 @@ named_value name r token = without_front (name ++ codes "=") token >>= whole r
 unfoldable pub read_field : {X : Type 0} → String → Reader X → FieldReader X
 read_field name r left = read_first (named_value (codes name) r) left.1 >>= λ x. Some (x.0, (left.0, x.1))
 
--- the first text that stands apart
+-- the first text that is written apart
 abbrev pub read_apart : {X : Type 0} → (List ℕ → Option X) → FieldReader X
 read_apart value left = read_first value left.0 >>= λ x. Some (x.0, (x.1, left.1))
 
--- a field that the call creates: its text, where it stands apart, is read by `value`
+-- a field that the call creates: its text, where it is written apart, is read by `value`
 unfoldable pub read_made : {X : Type 0} → Style → String → Reader X → (List ℕ → Option X) → FieldReader X
 read_made s name r value left =
     if s.ids.apart then read_apart value left else read_field name r left
 
--- one id that stands apart
+-- one id that is written apart
 abbrev pub one_apart : Style → List ℕ → Option ℕ
 one_apart s text = whole (read_id s) text
 
@@ -60,7 +60,7 @@ abbrev pub if_any : List ℕ → Option (List ℕ)
 if_any [] = None
 if_any (x ∷ xs) = Some (x ∷ xs)
 
--- ids that stand apart, with a comma between each two: a list without its brackets
+-- ids that are written apart, with a comma between each two: a list without its brackets
 abbrev pub each_apart : Style → List ℕ → Option (List ℕ)
 each_apart s text = whole (read_ids s) (91 ∷ text ++ 93 ∷ []) >>= if_any
 
@@ -83,7 +83,7 @@ r ⊛ s = read_both r s
 
 -- ---- the text of fields
 
--- the ids that a value creates, where they stand apart
+-- the ids that a value creates, where they are written apart
 abbrev pub made_text : Style → Value → List ℕ
 made_text s v = join_with_byte 44 (map s.ids.show (made_by v))
 

@@ -34,7 +34,7 @@ skipped_kind name =
     else if same_list name (codes "annotation") then Some 5
     else if same_list name (codes "message") then Some 3 else None
 
--- the payload of a skipped block with these bytes: those of a message stand behind its id
+-- the payload of a skipped block with these bytes: those of a message follow its id
 abbrev pub skipped_payload : ℕ → List ℕ → List ℕ
 skipped_payload kind bytes = if kind == 3 then to_le_bytes w32 1 ++ bytes else bytes
 

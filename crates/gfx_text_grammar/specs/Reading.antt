@@ -1,4 +1,4 @@
--- Reading of values: what stands at the front of a text, and the text behind it.
+-- Reading of values: what is at the start of a text, and the text behind it.
 use Rattle.std.specs.Prelude.{◌^◌, ℕ, zero, suc, ◌==◌, nat_lt, if◌then◌else◌, List, [], ◌∷◌, length, Option, Some, None}
 use Rattle.gfx_types.specs.declared.lists.Barrier.{Barrier}
 use Rattle.gfx_types.specs.declared.lists.BufferRegion.{BufferRegion}
@@ -16,7 +16,7 @@ pub record Style : Type 0 where
   pub read : List ℕ → Option ℕ
   pub read_maybe : List ℕ → Option ℕ
 
--- the value of the word at the front
+-- the value of the word at the start
 unfoldable pub read_word : {X : Type 0} → (List ℕ → Option X) → Reader X
 read_word value text = value (word_of text) >>= λ x. Some (x, after_word text)
 
@@ -34,7 +34,7 @@ infixr 12 ◌⊗◌
 abbrev pub ◌⊗◌ : {A B : Type 0} → Reader A → Reader B → Reader (A × B)
 r ⊗ s = read_comma r s
 
--- the value between a byte in front and one behind
+-- the value between a byte before it and one behind
 unfoldable pub read_between : {X : Type 0} → ℕ → ℕ → Reader X → Reader X
 read_between front back r text = behind front text >>= λ t. r t >>= λ x. behind back x.1 >>= λ u. Some (x.0, u)
 

@@ -5,7 +5,7 @@ use Rattle.gfx_script_model.specs.Names.{code, is_name, named_ids}
 use Rattle.gfx_text_grammar.specs.Words.{number_in}
 use Rattle.gfx_text_grammar.specs.Reading.{Style}
 
--- in a listing each id is a number in decimal, and those that a call creates stand among its fields
+-- in a listing each id is a number in decimal, and those that a call creates are among its fields
 abbrev pub numbered : Style
 numbered = record {
   ids = record { show = decimal; is_id = λ n. nat_lt n (2 ^ 64); is_maybe = λ n. nat_lt n (2 ^ 64); apart = false };

@@ -7,24 +7,24 @@ use Rattle.gfx_grammar.specs.Reading.{◌>>=◌}
 
 -- ---- where a word ends
 
--- the longest front of letters, digits and _
+-- the longest prefix of letters, digits and _
 abbrev pub word_of : List ℕ → List ℕ
 word_of [] = []
 word_of (c ∷ cs) = if is_letter_or_digit c then c ∷ word_of cs else []
 
--- what stands behind it
+-- what follows it
 abbrev pub after_word : List ℕ → List ℕ
 after_word [] = []
 after_word (c ∷ cs) = if is_letter_or_digit c then after_word cs else c ∷ cs
 
--- no word goes on at the front
+-- no word goes on at the start
 abbrev pub ends_word : List ℕ → Bool
 ends_word [] = true
 ends_word (c ∷ cs) = not (is_letter_or_digit c)
 
 -- ---- numbers
 
--- a digit from 1 on in front, or a zero alone
+-- a digit from 1 on before it, or a zero alone
 abbrev pub is_plain : List ℕ → Bool
 is_plain [] = false
 is_plain (c ∷ cs) = if c == 48 then length cs == 0 else true

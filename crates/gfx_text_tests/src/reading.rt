@@ -53,7 +53,7 @@ fn meta_again(alloc: Global, meta: &Meta<'_>) -> Result<Vec<u8>, WantMemory> {
     Ok(fields)
 }
 
-/// What stands behind the name in a line.
+/// What follows the name in a line.
 fn behind_name(line: &str) -> &[u8] {
     match line.as_bytes().iter().position(|c| *c == b' ') {
         Some(end) => &line.as_bytes()[end..],

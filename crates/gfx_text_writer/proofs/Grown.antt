@@ -17,7 +17,7 @@ pub join_first : {X : Type 0} (text : X → List ℕ) (x : X) (xs : List X) → 
 join_first text x [] = sym (append-nil (text x))
 join_first {X} text x (y ∷ ys) = ap (λ (z : List ℕ). text x ++ (44 ∷ z)) (join_first text y ys)
 
--- what stood at the front stays there, where what grew behind it stays
+-- what was at the start stays there, where what grew behind it stays
 pub front_stays : (old mid more new : List ℕ) → mid ≡ old ++ more → take (length mid) new ≡ mid → take (length old) new ≡ old
 front_stays old mid more new grown kept =
     sym (take-take (length old) (length mid) new (omega (arith, ap length grown, length-append old more)))
@@ -55,7 +55,7 @@ plain_token s name text v plain same =
     ∙ ap (λ (b : Bool). cond (b && s.ids.apart) [] (32 ∷ field_text s.ids.show f)) plain
     ∙ field_spelled s.ids.show name text v same
 
--- one that it makes, where it stands among the others and where it stands apart
+-- one that it makes, where it is among the others and where it is written apart
 pub made_token : (s : Style) (name text : List ℕ) (v : Value) → is_made v ≡ true → s.ids.apart ≡ false → value_text s.ids.show v ≡ text
     → tokens_text s (record { name = name; value = v } ∷ []) ≡ 32 ∷ (name ++ (61 ∷ text))
 made_token s name text v made among same =
@@ -73,7 +73,7 @@ apart_token s name v made apart =
     ∙ ap (λ (b : Bool). cond (b && s.ids.apart) [] (32 ∷ field_text s.ids.show f)) made
     ∙ ap (λ (b : Bool). cond b [] (32 ∷ field_text s.ids.show f)) apart
 
--- the texts of fields are those that do not stand apart
+-- the texts of fields are those that are not written apart
 pub tokens_left : (s : Style) (fields : List Named) → tokens_text s fields ≡ behind_spaces (with_fields s fields nothing).1
 unfolding tokens_text
 tokens_left s [] = refl

@@ -8,7 +8,7 @@ use Rattle.gfx_text_grammar.specs.Reading.{Style}
 abbrev pub behind_spaces : List (List ℕ) → List ℕ
 behind_spaces texts = flat_map (λ text. 32 ∷ text) texts
 
--- a field behind a space, where it doesn't stand apart
+-- a field behind a space, where it doesn't are written apart
 abbrev pub token_text : Style → Named → List ℕ
 token_text s f = if is_made f.value && s.ids.apart then [] else 32 ∷ field_text s.ids.show f
 

@@ -16,8 +16,8 @@ pub(crate) trait ShowFields {
     /// The fields in the table.
     ghost fields: { Self.Names → Self → List Named };
 
-    /// Appends the fields, each behind a space, but for those that stand apart. After want of memory some of them may
-    /// stand behind the old text.
+    /// Appends the fields, each behind a space, but for those that are written apart. When out of memory some of them may
+    /// follow the old text.
     fn show<W: ShowId>(
         &self,
         names: &Self::Names,

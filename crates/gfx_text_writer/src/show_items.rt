@@ -14,7 +14,7 @@ pub(crate) trait ShowItem {
     /// Its text, where ids are shown so.
     ghost text: { (ℕ → List ℕ) → Self → List ℕ };
 
-    /// Appends the text. After want of memory some of it may stand behind the old text.
+    /// Appends the text. When out of memory some of it may follow the old text.
     fn show<W: ShowId>(&self, ids: &W, out: &mut Vec<u8>) -> Result<(), AllocError>
         ensures ok { OnOk result (out.new.items ≡ out.old.items ++ text (W.style ids.now).ids.show self.now) }
         ensures err { OnErr result (take (length out.old.items) out.new.items ≡ out.old.items) };

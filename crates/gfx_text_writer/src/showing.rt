@@ -14,7 +14,7 @@ use gfx_params::call_id;
 use gfx_types::{Call, Ids, Meta, Presents, WantMemory, calls, metas};
 use std::alloc::AllocError;
 
-/// The section of this name, handed on.
+/// The section of this name, passed on.
 macro_rules! section {
     (devices $to:tt; devices { $($rows:tt)* } $($others:tt)*) => { rows! { $to $($rows)* } };
     (memory $to:tt; memory { $($rows:tt)* } $($others:tt)*) => { rows! { $to $($rows)* } };
@@ -57,8 +57,8 @@ macro_rules! lent {
     ($mark:ident $field:ident) => { $field };
 }
 
-/// Appends the fields of a call in this minor version, ` field=value` for each but for those that stand apart. After
-/// want of memory `out` is as it was.
+/// Appends the fields of a call in this minor version, ` field=value` for each but for those that are written apart. After
+/// a lack of memory `out` is as it was.
 #[tactic(auto, using(crate::proofs::Grown::tokens_left))]
 pub fn show_call<W: ShowId>(
     ids: &W,
@@ -79,7 +79,7 @@ pub fn show_call<W: ShowId>(
     }
 }
 
-/// The same of a metadata, whose fields are the same in both versions.
+/// Appends the fields of a metadata, which are alike in both versions.
 #[tactic(auto, using(crate::proofs::Grown::meta_left))]
 pub fn show_meta<W: ShowId>(ids: &W, meta: &Meta<'_>, out: &mut Vec<u8>) -> Result<(), WantMemory>
     ensures ok { OnOk result ((m : ℕ) → out.new.items ≡ out.old.items ++ behind_spaces (with_fields (W.style ids.now) (named_fields m (event_of_meta meta.now)) nothing).1) }
@@ -95,7 +95,7 @@ pub fn show_meta<W: ShowId>(ids: &W, meta: &Meta<'_>, out: &mut Vec<u8>) -> Resu
     }
 }
 
-/// Appends the fields of a call. After want of memory some of them may stand behind the old text.
+/// Appends the fields of a call. When out of memory some of them may follow the old text.
 fn put_call<W: ShowId>(
     ids: &W,
     minor: u32,
@@ -230,7 +230,7 @@ fn put_present<W: ShowId>(
     }
 }
 
-/// Appends the fields of a metadata. After want of memory some of them may stand behind the old text.
+/// Appends the fields of a metadata. When out of memory some of them may follow the old text.
 fn put_meta<W: ShowId>(ids: &W, meta: &Meta<'_>, out: &mut Vec<u8>) -> Result<(), AllocError>
     ensures ok { OnOk result (out.new.items ≡ out.old.items ++ tokens_text (W.style ids.now) (named_fields 1 (event_of_meta meta.now))) }
     ensures err { OnErr result (take (length out.old.items) out.new.items ≡ out.old.items) }

@@ -13,11 +13,11 @@ pub trait ShowId {
     /// The style of their texts.
     ghost style: { Self → Style };
 
-    /// Whether the ids that a call makes stand apart, left of its fields.
+    /// Whether the ids that a call makes are written apart, left of its fields.
     fn apart(&self) -> bool
         ensures { result ≡ (style self.now).ids.apart };
 
-    /// Appends the text of an id. After want of memory some of it may stand behind the old text.
+    /// Appends the text of an id. When out of memory some of it may follow the old text.
     fn show(&self, id: u64, out: &mut Vec<u8>) -> Result<(), AllocError>
         ensures ok { OnOk result (out.new.items ≡ out.old.items ++ (style self.now).ids.show id) }
         ensures err { OnErr result (take (length out.old.items) out.new.items ≡ out.old.items) };
@@ -35,7 +35,7 @@ impl ShowId for Numbered {
     }
 }
 
-/// Appends a number in decimal. After want of memory `out` is as it was.
+/// Appends a number in decimal. When out of memory `out` is as it was.
 pub fn put_number(number: u64, out: &mut Vec<u8>) -> Result<(), AllocError>
     ensures ok { OnOk result (out.new.items ≡ out.old.items ++ decimal number) }
     ensures err { OnErr result (out.new.items ≡ out.old.items) }
@@ -44,7 +44,7 @@ pub fn put_number(number: u64, out: &mut Vec<u8>) -> Result<(), AllocError>
     out.extend_from_slice(buffer.format(number).as_bytes())
 }
 
-/// Appends bytes in hexadecimal, two digits in lower case for each. After want of memory `out` is as it was.
+/// Appends bytes in hexadecimal, two digits in lower case for each. When out of memory `out` is as it was.
 pub fn put_bytes(bytes: &[u8], out: &mut Vec<u8>) -> Result<(), AllocError>
     ensures ok { OnOk result (out.new.items ≡ out.old.items ++ hex_text bytes.now) }
     ensures err { OnErr result (out.new.items ≡ out.old.items) }

@@ -26,7 +26,7 @@ one_or_more x p (y ∷ ys) =
     by false false true false = refl
     by false b false d = refl
 
--- one of the second list stands in the first where one of the first stands in the second
+-- one of the second list is in the first where one of the first is in the second
 pub met : (xs ys : List ℕ) → list_any (λ y. list_any (λ x. x == y) xs) ys ≡ list_any (λ x. list_any (λ y. y == x) ys) xs
 met [] ys = none_in ys
 met (x ∷ xs) ys = one_or_more x (λ y. list_any (λ x. x == y) xs) ys ∙ ap (λ t. list_any (λ y. y == x) ys || t) (met xs ys)

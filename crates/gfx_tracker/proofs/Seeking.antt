@@ -36,7 +36,7 @@ first_there p (x ∷ xs) = by (p x) refl (first_there p xs)
     by true is rest = ap (λ t. slice_get (cond t (x ∷ filter p xs) (filter p xs) ++ []) 0) is ∙ ap (λ t. cond t (Some x) (find p xs)) (sym is)
     by false is rest = ap (λ t. slice_get (cond t (x ∷ filter p xs) (filter p xs) ++ []) 0) is ∙ rest ∙ ap (λ t. cond t (Some x) (find p xs)) (sym is)
 
--- the first one, told by what stands at place 0
+-- the first one, told by what is at place 0
 pub first_is : (p : ℕ → Bool) (xs : List ℕ) (r : Result ℕ ℕ) → IfOk r (λ id. (more : List ℕ) → slice_get (filter p xs ++ more) 0 ≡ Some id)
     → IfErr r (λ left. (more : List ℕ) → slice_get (filter p xs ++ more) 0 ≡ slice_get more left) → result_ok r ≡ find p xs
 first_is p xs (Ok id) found passed = sym (found []) ∙ first_there p xs

@@ -1,4 +1,4 @@
--- An effect that may be taken, and what stands after it.
+-- An effect that may be taken, and what follows it.
 use Rattle.std.specs.Prelude.{◌≡◌, ◌<◌, ◌≤◌, ◌+◌, ◌||◌, ℕ, true, false, IsTrue, [], None, is_some, fold}
 use Rattle.gfx_model.specs.Events.{Event}
 use Rattle.gfx_model.specs.Steps.{Detail}

@@ -16,7 +16,7 @@ pub(crate) fn reset_command_pool(state: &mut State, _device: u64, pool: u64)
     state.reset_pool(pool);
 }
 
-/// The row of AllocateCommandBuffers. For want of memory all is as it was.
+/// The row of AllocateCommandBuffers. When out of memory all is as it was.
 pub(crate) fn allocate_command_buffers(
     state: &mut State,
     _device: u64,
@@ -44,7 +44,7 @@ pub(crate) fn free_command_buffers(state: &mut State, _device: u64, _pool: u64, 
     }
 }
 
-/// The row of BeginCommandBuffer. For want of memory all is as it was.
+/// The row of BeginCommandBuffer. When out of memory all is as it was.
 pub(crate) fn begin_command_buffer(state: &mut State, cb: u64, flags: u32) -> Result<(), WantMemory>
     requires { IsNext (state_answers state.old) (BeginCommandBuffer cb flags) }
     ensures ok { OnOk result (state_answers state.new ≡ after_event (state_answers state.old) (BeginCommandBuffer cb flags)) }

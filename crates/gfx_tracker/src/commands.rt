@@ -10,7 +10,7 @@ use crate::spelled::command_fits;
 use crate::state::State;
 use gfx_types::{Call, WantMemory};
 
-/// The row of a command, which is recorded into its command buffer. For want of memory all is as it was.
+/// The row of a command, which is recorded into its command buffer. When out of memory all is as it was.
 pub(crate) fn record_command(state: &mut State, call: &Call<'_>) -> Result<(), WantMemory>
     requires next { IsNext (state_answers state.old) (event_of_call call.now) }
     requires command { is_command (event_of_call call.now) ≡ true }

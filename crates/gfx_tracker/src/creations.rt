@@ -8,7 +8,7 @@ use crate::state::State;
 use gfx_objects::Detail;
 use gfx_types::WantMemory;
 
-/// The row of CreateInstance. For want of memory all is as it was.
+/// The row of CreateInstance. When out of memory all is as it was.
 pub(crate) fn create_instance(state: &mut State, instance: u64, api: u32) -> Result<(), WantMemory>
     requires { IsNext (state_answers state.old) (CreateInstance instance api) }
     ensures ok { OnOk result (state_answers state.new ≡ after_event (state_answers state.old) (CreateInstance instance api)) }
@@ -17,7 +17,7 @@ pub(crate) fn create_instance(state: &mut State, instance: u64, api: u32) -> Res
     state.create(instance, 0, Detail::Instance { api })
 }
 
-/// The row of CreateHeadlessSurfaceEXT. For want of memory all is as it was.
+/// The row of CreateHeadlessSurfaceEXT. When out of memory all is as it was.
 pub(crate) fn create_surface(
     state: &mut State,
     instance: u64,
@@ -30,7 +30,7 @@ pub(crate) fn create_surface(
     state.create(surface, instance, Detail::Surface)
 }
 
-/// The row of CreateDevice. For want of memory all is as it was.
+/// The row of CreateDevice. When out of memory all is as it was.
 pub(crate) fn create_device(state: &mut State, instance: u64, device: u64) -> Result<(), WantMemory>
     requires { IsNext (state_answers state.old) (CreateDevice instance device) }
     ensures ok { OnOk result (state_answers state.new ≡ after_event (state_answers state.old) (CreateDevice instance device)) }
@@ -39,7 +39,7 @@ pub(crate) fn create_device(state: &mut State, instance: u64, device: u64) -> Re
     state.create(device, instance, Detail::Device)
 }
 
-/// The row of AllocateMemory. For want of memory all is as it was.
+/// The row of AllocateMemory. When out of memory all is as it was.
 pub(crate) fn allocate_memory(
     state: &mut State,
     device: u64,
@@ -53,7 +53,7 @@ pub(crate) fn allocate_memory(
     state.create(memory, device, Detail::Memory { size, mapped: None })
 }
 
-/// The row of CreateBuffer. For want of memory all is as it was.
+/// The row of CreateBuffer. When out of memory all is as it was.
 pub(crate) fn create_buffer(
     state: &mut State,
     device: u64,
@@ -76,7 +76,7 @@ pub(crate) fn create_buffer(
     )
 }
 
-/// The row of CreateImage. For want of memory all is as it was.
+/// The row of CreateImage. When out of memory all is as it was.
 pub(crate) fn create_image(
     state: &mut State,
     device: u64,
@@ -105,7 +105,7 @@ pub(crate) fn create_image(
     )
 }
 
-/// The row of CreateCommandPool. For want of memory all is as it was.
+/// The row of CreateCommandPool. When out of memory all is as it was.
 pub(crate) fn create_command_pool(
     state: &mut State,
     device: u64,
@@ -119,7 +119,7 @@ pub(crate) fn create_command_pool(
     state.create(pool, device, Detail::Pool { flags })
 }
 
-/// The row of CreateSemaphore. For want of memory all is as it was.
+/// The row of CreateSemaphore. When out of memory all is as it was.
 pub(crate) fn create_semaphore(
     state: &mut State,
     device: u64,
@@ -132,7 +132,7 @@ pub(crate) fn create_semaphore(
     state.create(semaphore, device, Detail::Semaphore)
 }
 
-/// The row of CreateSwapchainKHR. For want of memory all is as it was.
+/// The row of CreateSwapchainKHR. When out of memory all is as it was.
 pub(crate) fn create_swapchain(
     state: &mut State,
     device: u64,
@@ -162,7 +162,7 @@ pub(crate) fn create_swapchain(
     )
 }
 
-/// The row of CreateFence. For want of memory all is as it was.
+/// The row of CreateFence. When out of memory all is as it was.
 pub(crate) fn create_fence(
     state: &mut State,
     device: u64,

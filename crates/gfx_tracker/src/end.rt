@@ -1,4 +1,4 @@
-//! How a row ends: always well, or perhaps for want of memory.
+//! How a row ends: always well, or perhaps when out of memory.
 ghost use Rattle.std.specs.Prelude.{◌≡◌, Ok, Result};
 
 use gfx_types::WantMemory;

@@ -1,4 +1,7 @@
 //! The operations of an effect: what it does to bytes and layouts.
+//!
+//! Barriers set no bytes and are often most of what command buffers hold, so a replay takes operations without
+//! layouts.
 ghost use Rattle.std.specs.Prelude.{◌≡◌, ℕ, ◌++◌, [], flat_map, length, take, OnOk, OnErr};
 ghost use Rattle.std.specs.List.{AllByRecursion};
 ghost use Rattle.gfx_model.specs.Events.{event_of, event_of_call, event_of_meta};
@@ -19,7 +22,7 @@ use crate::state::State;
 use gfx_objects::{Detail, Objects};
 use gfx_types::{Call, Effect, Meta, Op, OpList, Place, Submit, WantMemory};
 
-/// Appends the operations of an effect that breaks no check, with the layouts that they set or without. For want of memory
+/// Appends the operations of an effect that breaks no check, with the layouts that they set or without. When out of memory
 /// the list is as it was.
 pub(crate) fn append_ops(
     state: &State,
@@ -38,7 +41,7 @@ pub(crate) fn append_ops(
     }
 }
 
-// Appends the operations of a call: those of a submit, and else none. For want of memory the list is as it was.
+// Appends the operations of a call: those of a submit, and else none. When out of memory the list is as it was.
 #[tactic(auto, using(crate::proofs::Appended::nothing_more), unfolding(crate::specs::Operations::ops_of))]
 fn append_call(
     state: &State,
@@ -58,7 +61,7 @@ fn append_call(
     }
 }
 
-// Appends the operations of a metadata with bytes. For want of memory the list is as it was.
+// Appends the operations of a metadata with bytes. When out of memory the list is as it was.
 #[tactic(auto, using(crate::proofs::Appended::nothing_more), unfolding(crate::specs::Operations::ops_of))]
 fn append_meta(
     state: &State,
@@ -81,7 +84,7 @@ fn append_meta(
     }
 }
 
-// Appends what the command buffers of submits do, in order. For want of memory the list is as it was.
+// Appends what the command buffers of submits do, in order. When out of memory the list is as it was.
 fn append_submits(
     state: &State,
     submits: &[Submit],
@@ -101,7 +104,7 @@ fn append_submits(
     Ok(())
 }
 
-// The same, but that for want of memory the list only begins with what it was.
+// Appends the operations of submits. When out of memory some of them may follow what was in the list.
 fn expand_submits(
     state: &State,
     submits: &[Submit],
@@ -119,7 +122,7 @@ fn expand_submits(
     Ok(())
 }
 
-// The same for the command buffers of one submit.
+// Appends the operations of the command buffers of one submit. When out of memory some of them may follow.
 fn expand_each(
     state: &State,
     cbs: &[u64],
@@ -137,7 +140,7 @@ fn expand_each(
     Ok(())
 }
 
-// Appends what the commands of a buffer do. For want of memory the list is as it was.
+// Appends what the commands of a buffer do. When out of memory the list is as it was.
 fn expand(state: &State, cb: u64, with_layouts: bool, ops: &mut OpList) -> Result<(), WantMemory>
     requires lawful { ∥ IsLawful (state_answers state.now) [] ∥₁ }
     requires executable { IsExecutable (state_answers state.now) cb }
@@ -152,7 +155,7 @@ fn expand(state: &State, cb: u64, with_layouts: bool, ops: &mut OpList) -> Resul
     }
 }
 
-// Appends what an InitImage does. For want of memory the list is as it was.
+// Appends what an InitImage does. When out of memory the list is as it was.
 fn append_init(
     objects: &Objects,
     image: u64,

@@ -1,4 +1,4 @@
-//! The tracker: what stands after a capture's effects, and which effect may follow.
+//! The tracker: what follows a capture's effects, and which effect may follow.
 #![tactic(auto)]
 
 mod asked;

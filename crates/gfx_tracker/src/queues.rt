@@ -9,7 +9,7 @@ use gfx_objects::Detail;
 use gfx_types::WantMemory;
 
 /// The row of GetDeviceQueue. An id that was used is that of the queue itself, since a new one would have been checked.
-/// For want of memory all is as it was.
+/// When out of memory all is as it was.
 pub(crate) fn get_device_queue(state: &mut State, device: u64, queue: u64) -> Result<(), WantMemory>
     requires { IsNext (state_answers state.old) (GetDeviceQueue device queue) }
     ensures ok { OnOk result (state_answers state.new ≡ after_event (state_answers state.old) (GetDeviceQueue device queue)) }

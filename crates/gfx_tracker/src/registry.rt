@@ -1,4 +1,4 @@
-//! Live objects, with the signals of fences and semaphores and the marks of acquired images.
+//! Objects, signals and acquired images, changed together by the steps of a history.
 ghost use Rattle.std.specs.Prelude.{◌≡◌, ◌+◌, ◌<◌, ◌≤◌, ◌^◌, ◌==◌, ◌||◌, [], false, true, None, IsTrue, IsSome, is_some, OnOk, OnErr};
 ghost use Rattle.std.specs.FinMap as finmap;
 ghost use Rattle.gfx_types.specs.declared.names.Kind.TheVariants as kind;
@@ -56,7 +56,7 @@ impl Registry {
         self.objects.reserve(n, owner)
     }
 
-    /// Creates an object, a fence or semaphore unsignalled, a swapchain with no image acquired. For want of memory all
+    /// Creates an object, a fence or semaphore unsignalled, a swapchain with no image acquired. When out of memory all
     /// is as it was.
     pub(crate) fn create(&mut self, id: u64, parent: u64, detail: Detail) -> Result<(), WantMemory>
         requires not_zero { 0 < id }
@@ -108,7 +108,7 @@ impl Registry {
     }
 
     /// Binds a live buffer or image to a live memory, at an offset in bytes from which it ends inside the memory. For
-    /// want of memory all is as it was.
+    /// a lack of memory all is as it was.
     pub(crate) fn bind(&mut self, id: u64, memory: u64, offset: u64) -> Result<(), WantMemory>
         requires resource { IsTrue (view.is_live (answers_of self.old) kind.Buffer id || view.is_live (answers_of self.old) kind.Image id) }
         requires memory { IsTrue (view.is_live (answers_of self.old) kind.Memory memory) }
@@ -201,7 +201,7 @@ fn keep(signals: &mut Sync, images: &mut Swaps, id: u64, detail: &Detail) -> Res
     }
 }
 
-// Lets go of what was kept of a fence, a semaphore or a swapchain.
+// Drops what was kept of a fence, a semaphore or a swapchain.
 fn let_go(signals: &mut Sync, images: &mut Swaps, id: u64, detail: &Detail)
     requires signal { has_signal (detail_of detail.now) ≡ true → IsSome (finmap.get signals.old id) }
     requires marks { IsSome (images_of (detail_of detail.now)) → IsSome (finmap.get images.old id) }

@@ -39,7 +39,7 @@ pub(crate) fn unmap_memory(state: &mut State, _device: u64, memory: u64)
     state.unmap(memory);
 }
 
-/// The row of BindBufferMemory. For want of memory all is as it was.
+/// The row of BindBufferMemory. When out of memory all is as it was.
 pub(crate) fn bind_buffer_memory(
     state: &mut State,
     _device: u64,
@@ -54,7 +54,7 @@ pub(crate) fn bind_buffer_memory(
     state.bind(buffer, memory, offset)
 }
 
-/// The row of BindImageMemory. For want of memory all is as it was.
+/// The row of BindImageMemory. When out of memory all is as it was.
 pub(crate) fn bind_image_memory(
     state: &mut State,
     _device: u64,

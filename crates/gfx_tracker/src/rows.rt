@@ -31,7 +31,7 @@ use crate::swapchains::{acquire_next_image, get_swapchain_images};
 use crate::waits::{device_wait_idle, get_fence_status, queue_wait_idle, wait_for_fences};
 use gfx_types::{Call, Effect, Meta, WantMemory, argument, calls, metas};
 
-/// Takes an effect. For want of memory all is as it was.
+/// Takes an effect. When out of memory all is as it was.
 pub(crate) fn take_effect(state: &mut State, effect: &Effect<'_>) -> Result<(), WantMemory>
     requires { IsNext (state_answers state.old) (event_of effect.now) }
     ensures ok { OnOk result (state_answers state.new ≡ after_event (state_answers state.old) (event_of effect.now)) }
@@ -63,7 +63,7 @@ macro_rules! taken {
     };
 }
 
-/// Takes a call. For want of memory all is as it was.
+/// Takes a call. When out of memory all is as it was.
 fn take_call(state: &mut State, call: &Call<'_>) -> Result<(), WantMemory>
     requires { IsNext (state_answers state.old) (event_of_call call.now) }
     ensures ok { OnOk result (state_answers state.new ≡ after_event (state_answers state.old) (event_of_call call.now)) }
@@ -77,7 +77,7 @@ fn take_call(state: &mut State, call: &Call<'_>) -> Result<(), WantMemory>
     })
 }
 
-/// Takes a metadata. For want of memory all is as it was.
+/// Takes a metadata. When out of memory all is as it was.
 fn take_meta(state: &mut State, meta: &Meta<'_>) -> Result<(), WantMemory>
     requires { IsNext (state_answers state.old) (event_of_meta meta.now) }
     ensures ok { OnOk result (state_answers state.new ≡ after_event (state_answers state.old) (event_of_meta meta.now)) }

@@ -1,4 +1,6 @@
-//! What stands after the effects of a capture: objects, recordings, the next frame and the section.
+//! What follows the effects of a capture: objects, recordings, the next frame and the section.
+//!
+//! It has one method for each step of a history, so that no row of the table of calls knows how anything is kept.
 ghost use Rattle.std.specs.Prelude.{◌≡◌, ◌+◌, ◌<◌, ◌≤◌, ◌^◌, ◌==◌, ◌&&◌, ◌||◌, [], true, false, None, IsTrue, is_some, length, if◌then◌else◌, OnOk, OnErr};
 ghost use Rattle.std.specs.List.{AllByRecursion, list_any};
 ghost use Rattle.gfx_types.specs.declared.names.Kind.TheVariants as kind;
@@ -29,7 +31,7 @@ use gfx_objects::{Detail, Objects};
 use gfx_types::{Call, Kind, WantMemory};
 use std::alloc::Global;
 
-/// What stands after the effects of a capture.
+/// What follows the effects of a capture.
 #[derive(Drop)]
 pub(crate) struct State {
     pub registry: Registry,
@@ -63,7 +65,7 @@ impl State {
         self.is_empty = false;
     }
 
-    /// Creates an object, a fence or semaphore unsignalled, a swapchain with no image acquired. For want of memory all
+    /// Creates an object, a fence or semaphore unsignalled, a swapchain with no image acquired. When out of memory all
     /// is as it was.
     pub(crate) fn create(&mut self, id: u64, parent: u64, detail: Detail) -> Result<(), WantMemory>
         requires may { MayCreate (state_answers self.old) id (detail_of detail) }
@@ -88,7 +90,7 @@ impl State {
     }
 
     /// Binds a live buffer or image to a live memory, at an offset in bytes from which it ends inside the memory. For
-    /// want of memory all is as it was.
+    /// a lack of memory all is as it was.
     pub(crate) fn bind(&mut self, id: u64, memory: u64, offset: u64) -> Result<(), WantMemory>
         requires { MayBind (state_answers self.old) id memory offset }
         ensures ok { OnOk result (state_answers self.new ≡ after (state_answers self.old) (binds id memory offset)) }
@@ -197,7 +199,7 @@ impl State {
         self.is_empty = false;
     }
 
-    /// Begins to record into a live command buffer. For want of memory all is as it was.
+    /// Begins to record into a live command buffer. When out of memory all is as it was.
     pub(crate) fn begin(&mut self, cb: u64, flags: u32) -> Result<(), WantMemory>
         requires { view.is_live (state_answers self.old) kind.CommandBuffer cb ≡ true }
         ensures ok { OnOk result (state_answers self.new ≡ after (state_answers self.old) (begins cb flags)) }
@@ -208,7 +210,7 @@ impl State {
         Ok(())
     }
 
-    /// Adds a command to a live buffer that is recording. For want of memory all is as it was.
+    /// Adds a command to a live buffer that is recording. When out of memory all is as it was.
     pub(crate) fn record(&mut self, cb: u64, call: &Call<'_>) -> Result<(), WantMemory>
         requires live { view.is_live (state_answers self.old) kind.CommandBuffer cb ≡ true }
         requires recording { IsTrue (is_recording ((state_answers self.old).buffer cb).state) }

@@ -34,7 +34,7 @@ fn leave_layouts(state: &mut State, submits: &[Submit])
     }
 }
 
-// The same for the command buffers of one submit.
+// Sets the layouts in which the command buffers of one submit leave images.
 fn leave_layouts_each(state: &mut State, cbs: &[u64])
     requires { AllByRecursion (SetLayoutsOfLive (state_answers state.old)) cbs.now }
     ensures { state_answers state.new ≡ record (state_answers state.old) { layout = layouts_by (state_answers state.old).buffer (state_answers state.old).layout cbs.now } }
@@ -54,7 +54,7 @@ fn execute_submits(state: &mut State, submits: &[Submit])
     }
 }
 
-// The same for one submit.
+// The waits of one submit take their signals, its buffers are executed, and what it names is signalled.
 fn execute_submit(state: &mut State, submit: &Submit)
     requires { HasSignals (state_answers state.old) submit.now }
     ensures { state_answers state.new ≡ fold after (state_answers state.old) (map own_step (turns_of_submit submit.now)) }

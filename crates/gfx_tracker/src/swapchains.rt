@@ -20,7 +20,7 @@ struct Shape {
     usage: u32,
 }
 
-/// The row of GetSwapchainImagesKHR: the images get their ids by index, unless they were fetched before. For want of memory
+/// The row of GetSwapchainImagesKHR: the images get their ids by index, unless they were fetched before. When out of memory
 /// all is as it was.
 pub(crate) fn get_swapchain_images(
     state: &mut State,

@@ -1,4 +1,8 @@
-//! The tracker: what stands after the effects of a capture, and which effect may follow.
+//! The tracker: what follows the effects of a capture, and which effect may follow.
+//!
+//! `expand` appends operations and changes nothing, and `take` changes the state and makes no operation, so a submit
+//! without memory for its last operation leaves both as they were. Who has asked `fault_of` goes on with `take`, and
+//! no check is made twice.
 ghost use Rattle.std.specs.Prelude.{◌≡◌, ℕ, ◌++◌, [], None, filter, length, OnOk, OnErr, IfOk};
 ghost use Rattle.gfx_model.specs.Events.{event_of};
 ghost use Rattle.gfx_model.specs.Table.{checks_of};
@@ -26,7 +30,7 @@ use gfx_swap::{Swaps, Sync};
 use gfx_types::{Effect, Fault, OpList, WantMemory};
 use std::alloc::Global;
 
-/// What stands after the effects of a capture. Its answers are as after some history without a fault.
+/// What follows the effects of a capture. Its answers are as after some history without a fault.
 #[derive(Drop)]
 pub struct Tracker {
     state: State,
@@ -46,7 +50,7 @@ impl Tracker {
         }
     }
 
-    /// The fault of the first check that the effect breaks, where it breaks one. It never wants for memory: of a submit it takes some
+    /// The fault of the first check that the effect breaks, where it breaks one. It never runs out of memory: of a submit it takes some
     /// where there is some, and is slower where there is none.
     pub fn fault_of(&self, effect: &Effect<'_>) -> Option<Fault>
         ensures { result ≡ first_broken (answers self.now) (checks_of (event_of effect.now)) }
@@ -54,7 +58,7 @@ impl Tracker {
         self.state.fault_of(effect)
     }
 
-    /// Appends the operations of an effect that breaks no check: what it does to bytes and layouts. For want of memory the
+    /// Appends the operations of an effect that breaks no check: what it does to bytes and layouts. When out of memory the
     /// list is as it was.
     pub fn expand(&self, effect: &Effect<'_>, ops: &mut OpList) -> Result<(), WantMemory>
         requires { first_broken (answers self.now) (checks_of (event_of effect.now)) ≡ None }
@@ -64,7 +68,8 @@ impl Tracker {
         append_ops(&self.state, effect, true, ops)
     }
 
-    /// The same without layouts: what the effect does to bytes.
+    /// Appends the operations of an effect that breaks no check, those that change bytes alone. When out of memory the list is
+    /// as it was.
     pub fn expand_bytes(&self, effect: &Effect<'_>, ops: &mut OpList) -> Result<(), WantMemory>
         requires { first_broken (answers self.now) (checks_of (event_of effect.now)) ≡ None }
         ensures ok { OnOk result (ops.new ≡ ops.old ++ filter changes_bytes (ops_of (answers self.now) (event_of effect.now))) }
@@ -73,7 +78,7 @@ impl Tracker {
         append_ops(&self.state, effect, false, ops)
     }
 
-    /// Takes an effect that breaks no check. For want of memory the tracker is as it was.
+    /// Takes an effect that breaks no check. When out of memory the tracker is as it was.
     pub fn take(&mut self, effect: &Effect<'_>) -> Result<Outcome, WantMemory>
         requires { first_broken (answers self.old) (checks_of (event_of effect.now)) ≡ None }
         ensures ok { OnOk result (answers self.new ≡ after_event (answers self.old) (event_of effect.now)) }
@@ -85,7 +90,7 @@ impl Tracker {
     }
 
     /// Takes an effect and appends its operations. After a rule fault, which comes exactly where `fault_of` tells one,
-    /// and for want of memory the tracker and the list are as they were.
+    /// and when out of memory the tracker and the list are as they were.
     pub fn apply(&mut self, effect: &Effect<'_>, ops: &mut OpList) -> Result<Outcome, ApplyFault>
         ensures rule { rule_in result ≡ first_broken (answers self.old) (checks_of (event_of effect.now)) }
         ensures ok { OnOk result (answers self.new ≡ after_event (answers self.old) (event_of effect.now)) }
@@ -149,19 +154,5 @@ impl Tracker {
         ensures { result ≡ (answers self.now).next_frame }
     {
         self.state.next_frame
-    }
-
-    /// Whether no effect was taken yet.
-    pub fn is_empty(&self) -> bool
-        ensures { result ≡ (answers self.now).is_empty }
-    {
-        self.state.is_empty
-    }
-
-    /// The frame of the state section that was begun and is not ended, where there is one.
-    pub fn section(&self) -> Option<u64>
-        ensures { result ≡ (answers self.now).section }
-    {
-        self.state.section
     }
 }

@@ -1,4 +1,4 @@
-//! Why the lines of a trial were not written.
+//! Faults of a trial.
 ghost use Rattle.std.specs.Prelude.{◌≡◌};
 ghost use Rattle.gfx_trial.specs.declared.fault.TrialFault.TheVariants.{SinkFault as NoSink, WantMemory as NoMemory};
 

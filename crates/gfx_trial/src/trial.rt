@@ -1,4 +1,6 @@
 //! A trial, and the lines on it.
+//!
+//! It reads the capture that it made through a `SliceSource`, whose count of failures is 0 by its type.
 ghost use Rattle.std.specs.Prelude.{◌≡◌, ◌≤◌, ◌++◌, IfOk, OnOk, codes, string_bytes};
 ghost use Rattle.std.specs.Io.KnownBytes.{Appends};
 ghost use Rattle.gfx_io.specs.Causes.{Rose};
@@ -25,7 +27,7 @@ struct Trial {
 }
 
 /// Makes a capture of so many frames, cuts its middle third out, replays both, and writes four lines on them. After a fault the
-/// sink took a front of these.
+/// sink took a prefix of these.
 pub fn write_trial<K: Sink>(alloc: Global, frames: u64, sink: &mut K) -> Result<(), TrialFault>
     requires { (3 ≤ frames) × (frames ≤ 1000) }
     ensures ok { OnOk result (Appends (K.taken sink.old) (K.taken sink.new) (trial_text frames)) }

@@ -21,7 +21,7 @@ reaches_more n h (w ∷ ws) more =
 abbrev pub behind : Cut → List Whole → Cut
 behind c more = record { front = c.front; rest = c.rest ++ more }
 
--- blocks in front of a cut
+-- blocks before a cut
 abbrev pub before : List Whole → Cut → Cut
 before ws c = record { front = ws ++ c.front; rest = c.rest }
 
@@ -62,7 +62,7 @@ cut_all n h (w ∷ ws) r = by (cuts_before n h w.content) r (cut_all n (content_
     by true r later = absurd cc
     by false r later = ap (with_front w) (later r)
 
--- one block is the front, whether it cuts or not
+-- one block is the prefix, whether it cuts or not
 pub cut_one : (n : ℕ) (h : List Event) (w : Whole) → (cut_before n h (w ∷ [])).front ≡ w ∷ []
 unfolding cut_before
 cut_one n h w = by (cuts_before n h w.content)

@@ -71,7 +71,7 @@ text_all first last fed all b valid =
     ap (λ (b : Blocks). written_of (minor_of all) first last (valid_from [] b.items)) b.is
     ∙ ap (written_of (minor_of all) first last) (valid_on fed b.later.items [] valid)
 
--- a front of what is written of blocks without a fault is one of what is written of the file
+-- a prefix of what is written of blocks without a fault is one of what is written of the file
 front_of : (first last : ℕ) (fed : List Whole) (all : List ℕ) (before after : Option (List ℕ)) → BeginsWith fed all → is_valid (history_of fed) ≡ true →
     AppendsPart before after (written_of (minor_of all) first last fed) → AppendsPart before after (written first last all)
 front_of first last fed all before after b valid part =
@@ -221,7 +221,7 @@ next_fails first last p c fed why file left rest before after ordered g told =
     (stops first last fed why before after all rest (valid_of first last p c fed file _ before after g) (outside_of first last p c fed file _ before after ordered g)
     (subst (Appends before after) (text_is first last (minor_of all) c fed g.first_is g.last_is (g.minor_is ∙ was.1)) g.text) s))
 
--- a front of a block without a fault was written
+-- a prefix of a block without a fault was written
 front_more : (first last : ℕ) (p mid : Player) (c : Cutter) (fed : List Whole) (w : Whole) (file left rest before middle after : Option (List ℕ)) → Cutting first last p c fed file left before middle →
     HasRead mid (fed ++ w ∷ []) file rest → mid.minor ≡ p.minor → content_fault (history_of fed) w.content ≡ None → AppendsPart before after (text_by c (fed ++ w ∷ [])) →
     IfTold file rest (λ all rest. AppendsPart before after (written first last all))

@@ -16,7 +16,7 @@ use Rattle.gfx_trim.proofs.Cutting.{behind, or_more, reaches_more, cut_found, cu
 
 -- ---- where the frame begins
 
--- the boundary, where it is told whether it stands at the start
+-- the boundary, where it is told whether it is at the start
 abbrev cut_at : ℕ → List Whole → Bool → Cut
 cut_at first ws t = cond t (record { front = []; rest = ws }) (cut_before first [] ws)
 
@@ -127,7 +127,7 @@ goes_on m first last ws w there same going some =
           ∙ file_on m (section (history_to c) first) c.rest w;
     }
 
--- what is written of some blocks is the front of what is written of more
+-- what is written of some blocks is the prefix of what is written of more
 pub record Grown (m first last : ℕ) (ws more : List Whole) : Type 0 where
   pub tail : List ℕ
   pub is : written_of m first last (ws ++ more) ≡ written_of m first last ws ++ tail
@@ -140,7 +140,7 @@ range_begun first last ws some = by (has_boundary first ws) refl
     by true is = refl
     by false is = let none = sym some ∙ no_range first last ws is in absurd cc
 
--- an effect in the front of a cut
+-- an effect in a prefix of a cut
 front_acts : (n : ℕ) (h : List Event) (ws : List Whole) → has_effect (cut_before n h ws).front ≡ true → has_effect ws ≡ true
 front_acts n h ws some =
     ap has_effect (sym (cut_parts n h ws)) ∙ list_any-append (λ (w : Whole). acts w.content) (cut_before n h ws).front (cut_before n h ws).rest

@@ -134,7 +134,7 @@ one_rest n h w = by (cuts_before n h w.content)
     by true = refl
     by false = refl
 
--- and nothing stands behind the block where it begins
+-- and nothing follows the block where it begins
 pub before_rest : (first : ℕ) (ws : List Whole) (w : Whole) → has_boundary first ws ≡ false → (boundary first (ws ++ w ∷ [])).rest ≡ []
 before_rest first ws w none =
     let parts = or_parts (is_first first ws) (reaches first [] ws) none in

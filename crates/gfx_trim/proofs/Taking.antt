@@ -163,7 +163,7 @@ writes t old p q fed w number answer shows was is g f = by t (answer ∙ ap (is_
 
 -- ---- what is written
 
--- a front of what is written of more blocks
+-- a prefix of what is written of more blocks
 pub front_on : (c : Cutter) (fed : List Whole) (w : Whole) (a b : Option (List ℕ)) → Appends a b (text_by c fed) → AppendsPart a b (text_by c (fed ++ w ∷ []))
 front_on c fed w a b text =
     let g = grown c.minor c.first c.last fed (w ∷ []) in

@@ -80,6 +80,6 @@ pub record TakesBlock (old new : Cutter) (was p : Player) (w : Whole) (before af
   pub ok : IfOk result (λ last. (fed : List Whole) → IsAfter old was fed → Takes last old new p fed w)
   -- what is to be written of all blocks was written
   pub text : OnOk result ((fed : List Whole) (start : Option (List ℕ)) → IsAfter old was fed → Appends start before (text_by old fed) → Appends start after (text_by old (fed ++ w ∷ [])))
-  -- or a front of it
+  -- or a prefix of it
   pub front : (fed : List Whole) (start : Option (List ℕ)) → IsAfter old was fed → Appends start before (text_by old fed) → AppendsPart start after (text_by old (fed ++ w ∷ []))
   pub err : IfErr result (λ why. (fed : List Whole) → IsAfter old was fed → Refuses (history_of fed) w why)

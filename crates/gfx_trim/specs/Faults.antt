@@ -1,4 +1,4 @@
--- Faults of a section, handed on.
+-- Faults of a section, passed on.
 use Rattle.gfx_state.specs.declared.fault.StateFault.{StateFault}
 use Rattle.gfx_state.specs.declared.fault.StateFault.TheVariants as state
 use Rattle.gfx_player.specs.declared.fault.PlayFault.{PlayFault}

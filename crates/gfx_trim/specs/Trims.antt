@@ -51,7 +51,7 @@ pub record IsWithout (first last : ℕ) (before after : Option (List ℕ)) (low 
   pub file : Appends before after (written first last bytes)
   pub read : left ≡ []
 
--- A read failed behind these bytes. Neither a bad block nor the last frame of the range stands in them, and the next block isn't whole.
+-- A read failed behind these bytes. Neither a bad block nor the last frame of the range is in them, and the next block isn't whole.
 pub record IsCut (first last : ℕ) (before after : Option (List ℕ)) (bytes left : List ℕ) : Type 0 where
   pub given : List ℕ
   pub parts : bytes ≡ given ++ left
@@ -59,10 +59,10 @@ pub record IsCut (first last : ℕ) (before after : Option (List ℕ)) (bytes le
   pub lawful : end_of given ≡ (blocks_of given).end
   pub outside : IsOutside first last (history_in given)
   pub file : Appends before after (written first last given)
-  -- which is a front of what is written of all
+  -- which is a prefix of what is written of all
   pub front : AppendsPart before after (written first last bytes)
 
--- what was written, by the answer: the trimmed file, what stands of it before the end of the file, or a front of that
+-- what was written, by the answer: the trimmed file, what stands of it before the end of the file, or a prefix of that
 abbrev pub Answers : (first last : ℕ) → Option (List ℕ) → Option (List ℕ) → Result Unit PlayFault → List ℕ → List ℕ → Type 0
 Answers first last before after (Ok done) bytes left = IsDone first last before after bytes left
 Answers first last before after (Err (play.Bad fault block offset)) bytes left = IsBadAt first last before after fault block offset bytes

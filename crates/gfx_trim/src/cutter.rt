@@ -55,7 +55,7 @@ impl Cutter {
         }
     }
 
-    /// Takes a block that a player read, has it replayed, writes what is to be written of it, and lets go of it. Answers
+    /// Takes a block that a player read, has it replayed, writes what is to be written of it, and drops it. Answers
     /// whether it was the last of the range.
     pub(crate) fn take<K: Sink>(
         &mut self,
@@ -160,7 +160,7 @@ impl Cutter {
         Ok(false)
     }
 
-    /// Takes the first effect of the range: header, section and the kept blocks stand before it.
+    /// Takes the first effect of the range: header, section and the kept blocks are before it.
     fn begin<K: Sink>(
         &mut self,
         alloc: Global,

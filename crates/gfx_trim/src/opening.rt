@@ -1,4 +1,4 @@
-//! The front of a trimmed file.
+//! The prefix of a trimmed file.
 ghost use Rattle.std.specs.Prelude.{◌≡◌, ◌≤◌, List, Err, IfErr, OnOk};
 ghost use Rattle.std.specs.Io.KnownBytes.{Appends};
 ghost use Rattle.gfx_io.specs.Causes.{Rose};
@@ -43,7 +43,7 @@ pub(crate) fn write_opening<K: Sink>(
     Ok(())
 }
 
-/// The fault of a section that isn't written whole, handed on.
+/// The fault of a section that isn't written whole, passed on.
 fn state_fault(fault: StateFault) -> PlayFault
     ensures { result ≡ of_state fault }
 {

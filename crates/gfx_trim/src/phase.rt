@@ -1,4 +1,4 @@
-//! How far a cut is.
+//! Phases of a cut.
 
 /// How far a cut is.
 #[derive(Clone, Copy, Debug, PartialEq, Eq)]

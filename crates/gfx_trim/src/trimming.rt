@@ -12,7 +12,7 @@ use gfx_player::{PlayFault, Player};
 use std::alloc::Global;
 
 /// Writes the file of the frames `first` to `last` of a file: a header, the section for what was made before them, and their
-/// blocks as they stand, each as it is read. What follows frame `last` is not read. A bad block is told where it is met, and a
+/// blocks unchanged, each as it is read. What follows frame `last` is not read. A bad block is told where it is met, and a
 /// range that is not in the file where the file ends; what the range has before it was written, once it has an effect.
 pub fn trim<S: Source, K: Sink>(
     alloc: Global,
@@ -53,7 +53,7 @@ fn cut_range<S: Source, K: Sink>(
     cut
 }
 
-// The loop only borrows the player: each exit of an owner lets go of it field by field, which takes long to prove.
+// The loop only borrows the player: each exit of an owner drops it field by field, which takes long to prove.
 fn cut_opened<S: Source, K: Sink>(
     alloc: Global,
     first: u64,

@@ -110,7 +110,7 @@ ex_range = record {
   first_there = refl;
 }
 
--- its trimmed file: a section of 23 blocks that builds what stands before the frame, and the three blocks of the frame
+-- its trimmed file: a section of 23 blocks that builds what is before the frame, and the three blocks of the frame
 unfoldable taken : List ℕ
 taken = trimmed_by 1 2 2 (boundary 2 (blocks_of file).items)
 

@@ -1,4 +1,4 @@
--- A file that shows a frame: its header is good, and its blocks stand by themselves.
+-- A file that shows a frame: its header is good, and its blocks are by themselves.
 use Rattle.std.proofs.Common.{◌≡◌, ℕ, ◌⊎◌, ◌==◌, ◌||◌, cond, Bool, true, false, refl, sym, ◌∙◌, ap, subst, List, [], ◌∷◌, map, filter, drop, if◌then◌else◌, Option, Some, None}
 use Rattle.std.specs.List.{AllByRecursion}
 use Rattle.std.proofs.lemmas.Bool.{or_right}

@@ -24,12 +24,12 @@ use Rattle.gfx_trim_law.proofs.Standing.{IsStanding, room-before, room-behind, p
 use Rattle.gfx_trim_law.proofs.Reading.{none_begin, IsWritten, file_means}
 use Rattle.gfx_trim_law.proofs.Files.{computed, kept_frame, Shows, shows}
 
--- few blocks stand behind a section
+-- few blocks follow a section
 few : (n at : ℕ) → (n ≡ 0) ⊎ (at + n ≤ 2 ^ 32) → n ≤ 2 ^ 32
 few n at (inl none) = omega (arith, none)
 few n at (inr some) = omega (arith, some)
 
--- the range of a file can be written behind the section for what stands before it
+-- the range of a file can be written behind the section for what is before it
 pub written : (m : ℕ) (at : Position) (first last : ℕ) (ws : List Whole) (c : Cut) → (m ≡ 1) ⊎ (m ≡ 2) → at.in_section ≡ false → AllByRecursion (IsStanding m) ws → HaveRoom at (map part_of ws) →
     IsRange first last ws c → IsWritten m (history_to c) (range_from last c)
 written m at first last ws c version outside standing room is =

@@ -1,4 +1,4 @@
--- The numbers of frames in valid histories, and where markers may stand.
+-- The numbers of frames in valid histories, and where markers may occur.
 use Rattle.std.proofs.Common.{◌≡◌, ℕ, ◌^◌, ◌<◌, ◌≤◌, ◌==◌, ◌||◌, Bool, true, false, refl, sym, ◌∙◌, subst, List, [], ◌∷◌, Some, None, is_none, arith}
 use Rattle.std.specs.List.{AllByRecursion}
 use Rattle.std.proofs.lemmas.Bool.{and_parts, both_ways, eqb-true}

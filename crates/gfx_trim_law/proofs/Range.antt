@@ -66,7 +66,7 @@ pub record IsRange (first last : ℕ) (ws : List Whole) (c : Cut) : Type 0 where
   pub start : IsBoundary first ws c
   pub at : IsAtBoundary (history_to c)
   pub reached : reaches (last + 1) (history_to c) c.rest ≡ true
-  -- what stands behind the range
+  -- what follows the range
   pub behind : List Whole
   pub parts : range_from last c ++ behind ≡ c.rest
   pub markers : AllByRecursion IsNoMarker (events_in (range_from last c))

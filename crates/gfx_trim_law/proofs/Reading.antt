@@ -58,7 +58,7 @@ none_begin (w ∷ ws) a = by w.content a (none_begin ws)
     by skipped a later = (refl, later a)
     by (effect thread e) a later = (one e a.0, later a.1)
 
--- blocks that can stand behind a section
+-- blocks that can follow a section
 pub record AreBehind (m : ℕ) (ws : List Whole) : Type 0 where
   pub standing : AllByRecursion (IsStanding m) ws
   pub few : length ws ≤ 2 ^ 32

@@ -47,7 +47,7 @@ impl Case {
         assert!(rt; ended.notes.is_empty());
     }
 
-    /// A write failed behind a front of the cut.
+    /// A write failed behind a prefix of the cut.
     fn assert_front(&self, rt: &impl Abort, ended: &Ended) {
         assert_eq!(rt; (ended.status, ended.notes.len()), (6, 0));
         assert!(rt; self.cut.starts_with(&ended.text));
@@ -73,7 +73,7 @@ impl Case {
         false
     }
 
-    /// A write failed behind a front of the cut. Answers whether none failed, and all was written.
+    /// A write failed behind a prefix of the cut. Answers whether none failed, and all was written.
     fn was_written(&self, rt: &impl Abort, ended: &Ended) -> bool {
         if ended.status == 0 {
             self.assert_whole(rt, ended);

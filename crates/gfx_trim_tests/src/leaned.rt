@@ -1,4 +1,4 @@
-//! Lean cuts, as listings: of the section stay the objects that a range stands on, and the bytes that its frames read.
+//! Lean cuts, as listings: of the section stay the objects that a range depends on, and the bytes that its frames read.
 
 use gfx_outside::Outside;
 use std::alloc::Global;

@@ -22,7 +22,7 @@ fn cut_by<'a>(
     Ok(cut.text.len())
 }
 
-/// Cuts a range out of a file, with all that stands before it and lean. What is shown of both is what is shown of the range, and the lean cut is no longer.
+/// Cuts a range out of a file, with all that is before it and lean. What is shown of both is what is shown of the range, and the lean cut is no longer.
 fn assert_same<'a>(
     rt: &(impl Abort + AllocGlobal),
     file: &'a [u8],

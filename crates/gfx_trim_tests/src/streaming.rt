@@ -1,4 +1,4 @@
-//! A frame is written, or its blocks are, before what stands behind it is read.
+//! A frame is written, or its blocks are, before what follows it is read.
 ghost use Rattle.std.specs.Prelude.{None};
 ghost use Rattle.gfx_io.specs.Memory.{sink_faults};
 
@@ -11,7 +11,7 @@ use std::alloc::Global;
 use std::sync::atomic::{AtomicU64, Ordering};
 use std::test::Fail;
 
-/// A file that is given in pieces; what stands behind the first frame comes only once enough was written.
+/// A file that is given in pieces; what follows the first frame comes only once enough was written.
 #[derive(Drop)]
 struct Held<'a> {
     file: Vec<u8>,
@@ -60,7 +60,7 @@ impl<'a> Sink for Counted<'a> {
     }
 }
 
-/// Runs these words over the file of three frames where so many bytes are wanted.
+/// Runs these words over the file of three frames where so many bytes are needed.
 fn run_held(alloc: Global, words: &[&str], wanted: u64) -> Result<Ended, Fail> {
     let written = AtomicU64::new(0);
     let mut source = Held {

@@ -147,7 +147,7 @@ fn the_blocks_of_the_range_before_a_bad_one_are_written(rt: HostRuntime) -> Resu
     let damaged = &file[..1570.min(file.len())];
     assert_ends(&rt, "2-3", damaged, (3, &cut, line), 0)?;
     assert_ends(&rt, "4-4", damaged, (3, b"", line), 0)?;
-    // What stands behind the range is not read.
+    // What follows the range is not read.
     let cut = later_cut(rt.alloc(), 2, &[&NEXT_FRAME])?;
     assert_ends(&rt, "2-2", damaged, (0, &cut, b""), 219)
 }

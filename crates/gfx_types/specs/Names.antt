@@ -1,4 +1,4 @@
--- The numbers and names that stand in files and in printed lines.
+-- The numbers and names that are in files and in printed lines.
 use Rattle.std.specs.Prelude.{ℕ, ◌*◌, ◌==◌, if◌then◌else◌, List, codes, Option, Some, None, option_map, unwrap_or}
 use Rattle.gfx_types.specs.declared.names.Format.{Format}
 use Rattle.gfx_types.specs.declared.names.Format.TheVariants.{R8Uint, R8G8B8A8Unorm, R8G8B8A8Uint, B8G8R8A8Unorm, R32Uint}

@@ -11,7 +11,7 @@ pub const METADATA_COUNT: u32 = 5;
 /// fields, and the fields with their marks. A field `names` an id, `makes` one, or `maybe` names one where it isn't 0;
 /// it is a number of eight bytes (`wide`) or of four (`short`), bytes (`raw`), or a list of ids (`names_each`,
 /// `makes_each`), of numbers (`shorts`), of `records` or of what is `submitted`. The row of call 48, QueuePresentKHR,
-/// depends on the minor version and stands where it is used.
+/// depends on the minor version and is where it is used.
 #[macro_export]
 macro_rules! calls {
     ($with:ident, $($subject:tt)*) => {

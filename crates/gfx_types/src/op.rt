@@ -107,7 +107,7 @@ impl OpList {
         self.items.as_slice()
     }
 
-    /// Adds an operation at the end. For want of memory the list is as it was.
+    /// Adds an operation at the end. When out of memory the list is as it was.
     pub fn push(&mut self, op: Op) -> Result<(), WantMemory>
         ensures ok { OnOk result (self.new ≡ self.old ++ op ∷ []) }
         ensures err { OnErr result (self.new ≡ self.old) }

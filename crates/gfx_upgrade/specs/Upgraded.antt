@@ -12,7 +12,7 @@ abbrev pub is_present : Event → Bool
 is_present (QueuePresentKHR queue waits presents) = true
 is_present _ = false
 
--- a block as it stands, but a present with its fields in version 2
+-- a block that is copied, but a present with its fields in version 2
 abbrev pub upgraded_event : List ℕ → ℕ → Event → List ℕ
 upgraded_event bytes thread (QueuePresentKHR queue waits presents) = encoding 2 thread (QueuePresentKHR queue waits presents)
 upgraded_event bytes thread _ = bytes

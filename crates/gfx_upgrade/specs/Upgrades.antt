@@ -10,6 +10,6 @@ use Rattle.gfx_upgrade.specs.Upgraded.{upgraded_by}
 abbrev pub upgraded : List ℕ → List ℕ
 upgraded bytes = if is_none (header_fault bytes) then upgraded_by (blocks_of bytes).items else []
 
--- what was written, by the answer: the file in version 2, what stands of it before the end of the file, or a front of that
+-- what was written, by the answer: the file in version 2, what stands of it before the end of the file, or a prefix of that
 abbrev pub Answers : Option (List ℕ) → Option (List ℕ) → Result Unit PlayFault → List ℕ → List ℕ → Type 0
 Answers before after result bytes left = rewrites.Answers upgraded before after result bytes left

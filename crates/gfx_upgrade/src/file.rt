@@ -12,7 +12,7 @@ use gfx_player::PlayFault;
 use gfx_rewrite::rewrite;
 use std::alloc::Global;
 
-/// Writes a file in version 2: a header without options, and each block once it was read, as it stands, but of a present its
+/// Writes a file in version 2: a header without options, and each block once it was read, unchanged, but of a present its
 /// fields in version 2. It looks at the format alone and not at the rules. The blocks before a bad one were written, and
 /// nothing where the header is bad.
 pub fn upgrade<S: Source, K: Sink>(

@@ -14,7 +14,7 @@ pub(crate) fn number_of(text: &str) -> Option<u64>
     }
 }
 
-// Whether digits have no sign, and no zero in front.
+// Whether digits have no sign, and no zero before it.
 #[tactic(auto, unfolding(crate::specs::Digits::is_plain))]
 fn is_plain(digits: &[u8]) -> bool
     ensures { result ≡ is_plain digits.now }

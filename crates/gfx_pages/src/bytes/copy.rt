@@ -7,7 +7,7 @@ use super::{Bytes, PAGE, part_size};
 use crate::error::WantMemory;
 
 impl Bytes {
-    /// The same bytes again, in pages that both share until one of them writes there.
+    /// A copy of the bytes, in pages that both lists share until one of them writes there.
     pub fn share(&self) -> Result<Bytes, WantMemory>
         ensures { IfOk result (λ copy. copy ≡ self.now) }
     {

@@ -39,7 +39,7 @@ impl Bytes {
         Ok(())
     }
 
-    // The same for so few bytes that a chunk would cost more than they do.
+    // Repeats `word` over the `count` bytes from `at` on, at most FEW, for which a chunk would cost more than they do.
     fn fill_few(&mut self, at: u64, count: u64, word: u32) -> Result<(), WantMemory>
         requires few { count ≤ 64 }
         requires inside { at + count ≤ length self.old }

@@ -20,7 +20,7 @@ pub const COMMANDS: &str = "\
 ";
 
 /// As many bytes as there may be: 4,094 updates of 65,568 bytes, of which 65,536 are written, leave room for 64. Seven of the
-/// updates stand in buffers of their own, which give their room back one after another.
+/// updates are in buffers of their own, which give their room back one after another.
 pub const BYTES: &str = "\
 1 | AllocateMemory(3, 208, 65536) | taken
 1 | CreateBuffer(3, 209, 65536, 2) | taken

@@ -1,4 +1,4 @@
-//! Metadata, markers, and what may stand in a section.
+//! Metadata, markers, and what may occur in a section.
 
 /// Each check of metadata broken alone.
 pub const BROKEN: &str = "\
@@ -58,7 +58,7 @@ SetSemaphoreState: outside of a section before no semaphore | Device | - | SetSe
 SetSwapchainState: no swapchain before its marks | Section Device | - | SetSwapchainState(5, 1, 2) | NotLive
 ";
 
-/// Calls that may not stand in a section, whatever else they break.
+/// Calls that may not are in a section, whatever else they break.
 pub const OUTSIDE: &str = "\
 DestroyInstance: in a section | Section | CreateInstance(1, 0) | DestroyInstance(1) | StateOrder
 DestroySurfaceKHR: in a section | Section Device | - | DestroySurfaceKHR(1, 2) | StateOrder

@@ -4,7 +4,7 @@ use Rattle.gfx_decode.specs.Reachable.{IsBehind, blocks_ahead}
 use Rattle.gfx_cli.proofs.Counting.{Counted}
 use Rattle.gfx_cli.proofs.counts.count.Given as goal
 
--- the decoder stands behind the blocks that were counted
+-- the decoder follows the blocks that were counted
 abbrev pub invariant-loop-buffer : goal.invariant-loop-buffer
 invariant-loop-buffer g l =
     let source = g.S.Source in

@@ -1,21 +1,12 @@
-use Rattle.std.proofs.Common.{◌≡◌, ◌-◌, ◌^◌, ◌<◌, ◌≤◌, true, nat_le, length, take, drop, refl, sym, ap, subst, ◌∙◌, arith}
+use Rattle.std.proofs.Common.{◌≡◌, ◌-◌, ◌^◌, ◌<◌, ◌≤◌, length, take, drop, sym, ap, subst, ◌∙◌, arith}
 use Rattle.std.proofs.lemmas.List.{take_rest}
 use Rattle.gfx_model.specs.Blocks.{side_count}
 use Rattle.gfx_grammar.specs.Framing.{marks, past, side}
 use Rattle.gfx_grammar.proofs.FramingLaws.{head-bounds}
 use Rattle.gfx_decode.specs.Position.{position_of}
 use Rattle.gfx_decode.specs.Reachable.{IsInReach}
-use Rattle.gfx_decode.proofs.Finding.{framed-side, framed-past, past-in_reach, breaks_full, full, not_full}
+use Rattle.gfx_decode.proofs.Finding.{framed-side, framed-past, past-in_reach, full, not_full}
 use Rattle.gfx_decode.proofs.blocks.place_behind.Goals as goal
-
-pub returns-then-is_full-clause-fault : goal.returns-then-is_full-clause-fault
-returns-then-is_full-clause-fault c m =
-    let bytes = c.args.buffer.now in
-    let payload = take (length bytes - 12) (drop 12 bytes) in
-    let at = position_of c.args.at in
-    let crowded : nat_le (2 ^ 32) (side at (marks 1 c.args.framing.kind c.args.framing.size payload)) ≡ true =
-    ap (λ b. nat_le (2 ^ 32) (side at b)) (sym c.is_marker-begins.ensures) ∙ sym c.is_full.ensures ∙ c.if-is_full.true in
-    rw c.bad.ensures (refl, refl, λ rest. breaks_full m at c.args.framing.kind c.args.framing.size bytes payload rest c.requires.framed (take_rest bytes 12) crowded)
 
 pub returns-then-is_full-clause-full : goal.returns-then-is_full-clause-full
 returns-then-is_full-clause-full c =

@@ -31,9 +31,9 @@ returns-in_err-read_over-clause-fault g c =
 
 pub returns-in_err-read_over-clause-reads : goal.returns-in_err-read_over-clause-reads
 returns-in_err-read_over-clause-reads g c =
-    let (part, _, _, came) = c.pieces.invariant.held in
-    let (piece, more) = c.in_err-read_over.ensures.reads in
-    (part ++ piece, Consumes-trans _ _ _ part piece came more)
+    let (part, _, all, came) = c.pieces.invariant.held in
+    let (piece, more, few) = c.in_err-read_over.ensures.reads in
+    (part ++ piece, Consumes-trans _ _ _ part piece came more, omega (arith, all, few, length-append part piece, c.min-most.ensures, c.pieces.invariant.within))
 
 pub returns-then-branch-most-clause-fault : goal.returns-then-branch-most-clause-fault
 returns-then-branch-most-clause-fault g c =
@@ -44,9 +44,10 @@ returns-then-branch-most-clause-fault g c =
 
 pub returns-then-branch-most-clause-reads : goal.returns-then-branch-most-clause-reads
 returns-then-branch-most-clause-reads g c =
-    let (part, _, _, came) = c.pieces.invariant.held in
-    let (piece, _, _, more) = c.in_ok-read_over.ensures.piece in
-    (part ++ piece, Consumes-trans _ _ _ part piece came more)
+    let (part, _, all, came) = c.pieces.invariant.held in
+    let (piece, long, _, more) = c.in_ok-read_over.ensures.piece in
+    let few = c.in_ok-read_over.ensures.ended.0 in
+    (part ++ piece, Consumes-trans _ _ _ part piece came more, omega (arith, all, long, few, length-append part piece, c.min-most.ensures, c.pieces.invariant.within))
 
 pub pieces-preserved : goal.pieces-preserved
 pieces-preserved g c =

@@ -2,7 +2,7 @@ use Rattle.std.proofs.Common.{◌≡◌, ◌≤◌, ◌-◌, ◌++◌, ◌+◌, 
 use Rattle.std.specs.Io.KnownBytes.{Consumes}
 use Rattle.gfx_decode.proofs.reading.read_rest.Given as goal
 
--- the head and the part of the payload that was read stand at the front of the buffer
+-- the head and the part of the payload that was read are at the start of the buffer
 abbrev pub invariant-pieces : goal.invariant-pieces
 invariant-pieces g l =
     let source = g.S.Source in

@@ -1,4 +1,4 @@
-use Rattle.std.proofs.Common.{Ok, Err, None, Some, sym, subst, arith}
+use Rattle.std.proofs.Common.{◌+◌, Ok, Err, None, Some, length, length-drop, ap, sym, subst, arith}
 use Rattle.std.proofs.lemmas.Result.{err_from_is_err_and}
 use Rattle.gfx_io.specs.Told.{IfTold}
 use Rattle.gfx_list.specs.Lines.{Finds}
@@ -73,3 +73,14 @@ returns-clause-told g c =
 
 pub returns-clause-header : goal.returns-clause-header
 returns-clause-header g c = header_of _ _ _ c.in_ok-minor.ensures.takes
+
+pub find_line-requires : goal.find_line-requires
+find_line-requires g c = let none = ap length c.requires.0 in omega (arith, none)
+
+pub returns-clause-few : goal.returns-clause-few
+returns-clause-few g c =
+    let finds = rw c.in-Some.is at c.in_ok-end.ensures.finds in
+    let room = finds.3 in
+    let long = ap length c.pass.ensures in
+    let less = length-drop (c.in-Some.end + 1) c.find_line.new.self in
+    omega (arith, room, long, less)

@@ -3,7 +3,7 @@ use Rattle.gfx_decode.proofs.Told.{told_if}
 use Rattle.gfx_list.proofs.Flushing.{unlists_all, unlists_front}
 use Rattle.gfx_list.proofs.unlisting.unlist.Goals as goal
 
--- a front of what was held was written
+-- a prefix of what was held was written
 pub returns-in_err-write_held-clause-told : goal.returns-in_err-write_held-clause-told
 returns-in_err-write_held-clause-told g c =
     let p = err_from_is_err_and c.from_residual.result c.from_residual.ensures.1 in

@@ -1,4 +1,4 @@
-use Rattle.std.proofs.Common.{◌+◌, refl, sym, ap, subst, length, drop, ◌∙◌, arith}
+use Rattle.std.proofs.Common.{◌+◌, refl, sym, ap, subst, length, length-drop, drop, ◌∙◌, arith}
 use Rattle.std.proofs.lemmas.Result.{err_from_is_err_and}
 use Rattle.gfx_decode.specs.Position.{position_of}
 use Rattle.gfx_decode.specs.Reachable.{IsInReach}
@@ -30,11 +30,15 @@ reading-init g c =
     let at = c.first_place-at.ensures ∙ ap (λ xs. first_place (length xs)) c.deref.ensures.value in
     record {
       version = header.version;
+      few = c.in_ok-minor.ensures.few;
       reach = subst IsInReach (sym at) (first_reach minor bytes header);
       unlisting = told_if _ _ _ _ c.in_ok-minor.ensures.told (λ text left o. opened minor (position_of c.first_place-at.result) taken bytes _ text left o at);
       later_source = c.in_ok-minor.ensures.later;
       later_sink = omega arith;
     }
+
+pub find_line-requires : goal.find_line-requires
+find_line-requires g c = c.reading.invariant.few
 
 -- there is no further line
 pub returns-in_err-end-clause-told : goal.returns-in_err-end-clause-told
@@ -71,7 +75,7 @@ returns-in_err-at-clause-told g c =
     let none = subst (λ xs. IsNoBlock m at xs c.in_err-at.field-0.0) c.line.ensures c.in_err-at.ensures.fault in
     rw (p.1, p.2)
     (told_if _ _ _ _ (told_reads m at before mid held c.reading.lines pending (g.S.Source.left c.args.source.now) (g.S.Source.left c.reading.source) (g.S.Source.left c.find_line.new.source) c.reading.invariant.unlisting finds.0)
-    (λ text left u. no_block m at c.in_err-at.field-0.0 before mid end held _ pending text left u finds.1 none c.in_err-at.ensures.unchanged))
+    (λ text left u. no_block m at c.in_err-at.field-0.0 before mid end held _ pending text left u finds.1 finds.3 none c.in_err-at.ensures.unchanged))
 
 pub returns-in_err-at-clause-read_fault : goal.returns-in_err-at-clause-read_fault
 returns-in_err-at-clause-read_fault g c is =
@@ -130,6 +134,7 @@ reading-preserved g c =
     let takes = subst (λ xs. TakesBlock m at xs held grown next) c.line.ensures c.in_ok-at.ensures.takes in
     record {
       version = kept.version;
+      few = let long = ap length c.pass.ensures in let less = length-drop (end + 1) pending in let room = finds.3 in omega (arith, long, less, room);
       reach = takes.reach;
       unlisting = told_if _ _ _ _ (told_reads m at before mid held c.reading.lines pending (g.S.Source.left c.args.source.now) (g.S.Source.left c.reading.source) (g.S.Source.left c.find_line.new.source) kept.unlisting finds.0) (λ text left u.
           subst (λ xs. Unlisting m next before after new xs text left) (sym c.pass.ensures)

@@ -7,7 +7,7 @@ use Rattle.gfx_objects.proofs.tables.move_to.Goals as goal
 pub returns-then-before-group : goal.returns-then-before-group
 returns-then-before-group c g x =
     let put = ap (λ f. f g x) c.insert.ensures.members in
-    let taken = ap (λ f. f g x) c.remove.ensures in
+    let taken = ap (λ f. f g x) c.remove.ensures.members in
     let was = c.requires.member g ∙ ap (is_at g) c.in-Some.is in
     let here : c.args.id ≡ x → is_member c.args.groups.now.sets.map g c.args.id ≡ is_member c.args.groups.now.sets.map g x = ap (is_member c.args.groups.now.sets.map g) in
     let other = c.if-before-group.true in

@@ -14,7 +14,7 @@ returns-in_err-put_block-clause-err g c =
     let text = (g.W.Rewriter.texts c.args.way.now).of_block c.args.minor (item_of c.args.raw.now) in
     rw p.1 (part_none _ c.args.held.now.items c.put_block.new.out.items text c.in_err-put_block.ensures.err)
 
--- a front of what is held with it was written
+-- a prefix of what is held with it was written
 pub returns-in_err-write_many-in-Anew-clause-err : goal.returns-in_err-write_many-in-Anew-clause-err
 returns-in_err-write_many-in-Anew-clause-err g c =
     let p = err_from_is_err_and c.from_residual-in_err-write_many-in-Anew.result c.from_residual-in_err-write_many-in-Anew.ensures.1 in

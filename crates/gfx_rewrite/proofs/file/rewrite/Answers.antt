@@ -4,7 +4,7 @@ use Rattle.gfx_rewrite.specs.Texts.{rewritten}
 use Rattle.gfx_rewrite.proofs.Rewriting.{answers_all, answers_front}
 use Rattle.gfx_rewrite.proofs.file.rewrite.Goals as goal
 
--- a front of what was held was written
+-- a prefix of what was held was written
 pub returns-in_err-write_held-clause-told : goal.returns-in_err-write_held-clause-told
 returns-in_err-write_held-clause-told g c =
     let p = err_from_is_err_and c.from_residual.result c.from_residual.ensures.1 in

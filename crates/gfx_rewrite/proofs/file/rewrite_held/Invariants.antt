@@ -4,7 +4,7 @@ use Rattle.gfx_decode.specs.Reachable.{IsBehind, blocks_ahead}
 use Rattle.gfx_rewrite.proofs.Rewriting.{IsOfVersion, Rewriting}
 use Rattle.gfx_rewrite.proofs.file.rewrite_held.Given as goal
 
--- the decoder stands behind the blocks whose texts were taken or are held
+-- the decoder follows the blocks whose texts were taken or are held
 abbrev pub invariant-reading : goal.invariant-reading
 invariant-reading g l =
     let source = g.S.Source in

@@ -7,7 +7,7 @@ use Rattle.gfx_rewrite.specs.Held.{Held, HeldPart}
 use Rattle.gfx_rewrite.proofs.Holding.{held_behind, part_behind, part_failed, part_more, two_parts}
 use Rattle.gfx_rewrite.proofs.held.put.Goals as goal
 
--- a front of the first piece was written
+-- a prefix of the first piece was written
 pub returns-in_err-write_held-clause-err : goal.returns-in_err-write_held-clause-err
 returns-in_err-write_held-clause-err g c =
     let p = err_from_is_err_and c.from_residual-in_err-write_held.result c.from_residual-in_err-write_held.ensures.1 in

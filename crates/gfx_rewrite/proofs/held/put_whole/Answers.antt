@@ -4,7 +4,7 @@ use Rattle.gfx_rewrite.specs.Held.{HeldPart}
 use Rattle.gfx_rewrite.proofs.Holding.{held_none, part_failed, part_held, part_more}
 use Rattle.gfx_rewrite.proofs.held.put_whole.Goals as goal
 
--- a front of the whole pieces was written
+-- a prefix of the whole pieces was written
 pub returns-in_err-write_whole-clause-err : goal.returns-in_err-write_whole-clause-err
 returns-in_err-write_whole-clause-err g c =
     let p = err_from_is_err_and c.from_residual.result c.from_residual.ensures.1 in

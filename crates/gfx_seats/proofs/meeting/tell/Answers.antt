@@ -45,3 +45,8 @@ pub returns-clause-alone : goal.returns-clause-alone
 returns-clause-alone g c = let v = g.V.Grows in let h = c.args.from.now.me.0.hand in let me = c.args.to.now.me in
     let now = noted-is v.entries v.thread_of v.ids_of v.kind me c.join_seat.new.seat.me _ h c.join_seat.ensures.2 (ap (λ m. m.0) c.split_seat-note.ensures.4) c.requires.bare.1 in
     (learnt-of v.entries v.thread_of v.ids_of v.kind me c.join_seat.new.seat.me c.load.new.seat.me h now c.load.ensures.2).alone
+
+pub returns-clause-knows : goal.returns-clause-knows
+returns-clause-knows g c = let v = g.V.Grows in let h = c.args.from.now.me.0.hand in let me = c.args.to.now.me in
+    let now = noted-is v.entries v.thread_of v.ids_of v.kind me c.join_seat.new.seat.me _ h c.join_seat.ensures.2 (ap (λ m. m.0) c.split_seat-note.ensures.4) c.requires.bare.1 in
+    (learnt-of v.entries v.thread_of v.ids_of v.kind me c.join_seat.new.seat.me c.load.new.seat.me h now c.load.ensures.2).knows

@@ -9,7 +9,7 @@ pub resources-preserved : goal.resources-preserved
 resources-preserved c =
     let ids = c.ids-resource-items.result.now in
     forgotten_more (is_member c.args.self.now.groups.sets.map) (is_member c.resources.self.groups.sets.map) c.args.cb ids c.resources.resource-index (get_or ids c.resources.resource-index 0)
-    c.resources-test.true refl (is_member c.remove.new.self.sets.map) c.resources.invariant c.remove.ensures
+    c.resources-test.true refl (is_member c.remove.new.self.sets.map) c.resources.invariant c.remove.ensures.members
 
 pub returns : goal.returns
 returns c =

@@ -1,5 +1,6 @@
 use Rattle.std.proofs.Common.{◌<◌, [], ◌∷◌, length, length-append, Ok, Err, None, refl, sym, ap, subst, ◌∙◌, arith}
 use Rattle.gfx_decode.specs.Reachable.{IsBehind, blocks_ahead}
+use Rattle.gfx_decode.proofs.Steps.{framing_stops}
 use Rattle.gfx_fan.specs.Groups.{framed_at}
 use Rattle.gfx_fan.proofs.Grouping.{framed_fewer, full_some, gives_at, is_full, limited_more, limited_none, reading_more, reading_none, some_none, some_then}
 use Rattle.gfx_fan.proofs.group.Group.fill.Goals as goal
@@ -69,7 +70,7 @@ returns-in-Err-clause-read g c at place =
       middle = g.S.Source.left c.reading.source;
       blocks = r.blocks;
       took = r.took;
-      ends = (gives_at c.args.player.now.minor c.reading.player.decoder r.end (Err c.in-Err.why) _ _ r.place c.in-Err.ensures.err, c.in-Err.ensures.fault c.args.player.now.minor r.end r.place);
+      ends = (gives_at c.args.player.now.minor c.reading.player.decoder r.end (Err c.in-Err.why) _ _ r.place c.in-Err.ensures.err, framing_stops c.args.player.now.minor r.end _ _ c.in-Err.why (c.in-Err.ensures.framing c.args.player.now.minor r.end r.place));
     }
 
 pub returns-in-Err-clause-some : goal.returns-in-Err-clause-some

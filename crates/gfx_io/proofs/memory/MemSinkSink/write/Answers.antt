@@ -8,18 +8,11 @@ returns-then-is_err-clause-cause c =
     subst (λ (f : List ℕ). listed_calls f c.next_call_fails.new.calls ≡ listed_calls f c.self.inside.calls) c.deref.ensures.value (c.next_call_fails.ensures.still c.if-next_call_fails.false) in
     let before = ap sink_faults c.self.view_is in
     let more = c.saturating_add-self-inside.ensures in
-    record { later = omega (arith, still, before, more); failed = omega (arith, still, before, more) }
+    record { later = omega (arith, still, before, more); still = tt; failed = omega (arith, still, before, more) }
 
 pub returns-clause-cause : goal.returns-clause-cause
 returns-clause-cause c =
     let still : listed_calls c.self.inside.failing.items c.next_call_fails.new.calls ≡ listed_calls c.self.inside.failing.items c.self.inside.calls =
     subst (λ (f : List ℕ). listed_calls f c.next_call_fails.new.calls ≡ listed_calls f c.self.inside.calls) c.deref.ensures.value (c.next_call_fails.ensures.still c.if-next_call_fails.false) in
     let before = ap sink_faults c.self.view_is in
-    record { later = omega (arith, still, before); failed = tt }
-
-pub returns-clause-still : goal.returns-clause-still
-returns-clause-still c =
-    let still : listed_calls c.self.inside.failing.items c.next_call_fails.new.calls ≡ listed_calls c.self.inside.failing.items c.self.inside.calls =
-    subst (λ (f : List ℕ). listed_calls f c.next_call_fails.new.calls ≡ listed_calls f c.self.inside.calls) c.deref.ensures.value (c.next_call_fails.ensures.still c.if-next_call_fails.false) in
-    let before = ap sink_faults c.self.view_is in
-    omega (arith, still, before)
+    record { later = omega (arith, still, before); still = omega (arith, still, before); failed = tt }

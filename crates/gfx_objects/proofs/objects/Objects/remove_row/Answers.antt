@@ -1,15 +1,16 @@
 use Rattle.std.proofs.Common.{◌≡◌, ◌-◌, ◌==◌, ◌&&◌, false, None, if◌then◌else◌, refl, ap, sym, ◌∙◌, arith}
 use Rattle.std.specs.FinMap as map
-use Rattle.gfx_table.specs.Groups.{is_member}
+use Rattle.gfx_table.specs.Groups.{is_member, room_in}
 use Rattle.gfx_table.specs.Rows.{remove_none}
 use Rattle.gfx_model.specs.Views.{detail_bytes}
 use Rattle.gfx_objects.specs.Object.{detail_of}
-use Rattle.gfx_objects.specs.Objects.{Kept, was_used}
+use Rattle.gfx_objects.specs.Objects.{Kept, answers, owns, was_used}
 use Rattle.gfx_objects.specs.Inside.{kept_of}
 use Rattle.gfx_objects.specs.Children.{is_at, count_of}
 use Rattle.gfx_objects.proofs.Index.{total_removed, len_removed}
 use Rattle.gfx_objects.proofs.Kept.{none_noted, used_removed, used_same, sound_same, sound_removed, indexed_same, indexed_removed}
 use Rattle.gfx_objects.proofs.Grouped.{grouped_same, grouped_removed}
+use Rattle.gfx_objects.proofs.Owned.{still_owned, not_owner}
 use Rattle.gfx_objects.proofs.objects.Objects.remove_row.Goals as goal
 
 pub bytes-requires : goal.bytes-requires
@@ -49,8 +50,8 @@ invariant_of-self c =
       grouped = grouped_removed s.rows.map c.remove.new.self.map (is_member s.owned.sets.map) (is_member c.take_from.new.groups.sets.map)
           (is_member s.resting.sets.map) (is_member c.take_from-in-Some.new.groups.sets.map) (count_of s.swapchains.counts.map) (count_of c.remove_from.new.self.counts.map) c.args.id o
           c.self.invariant.grouped c.in-Some.ensures.map some
-          (λ g x. c.take_from.ensures g x ∙ ap (λ its. if is_at g its && c.args.id == x then false else is_member s.owned.sets.map g x) c.owner-owner.ensures)
-          (λ g x. c.take_from-in-Some.ensures g x ∙ ap (λ its. if is_at g its && c.args.id == x then false else is_member s.resting.sets.map g x) c.memory-memory.ensures)
+          (λ g x. c.take_from.ensures.members g x ∙ ap (λ its. if is_at g its && c.args.id == x then false else is_member s.owned.sets.map g x) c.owner-owner.ensures)
+          (λ g x. c.take_from-in-Some.ensures.members g x ∙ ap (λ its. if is_at g its && c.args.id == x then false else is_member s.resting.sets.map g x) c.memory-memory.ensures)
           (λ g. c.remove_from.ensures.counts g ∙ ap (λ its. count_of s.swapchains.counts.map g - (if is_at g its then 1 else 0)) c.surface-surface.ensures);
       has_room = record {
         rows = let a = room.rows in let b = c.in-Some.ensures.spare in omega (arith, a, b);
@@ -98,3 +99,22 @@ returns-in_default-clause-used c =
     let s = c.self.inside in
     let same = c.in_default.ensures.map ∙ remove_none s.rows.map c.args.id (sym c.in_default.ensures.value) in
     used_same (kept_of s) (record { rows = c.remove.new.self.map; ended = s.ended; owned = s.owned.sets.map; spare = s.room }) same refl ∙ ap was_used c.self.view_is
+
+pub returns-in-Some-clause-left : goal.returns-in-Some-clause-left
+returns-in-Some-clause-left c x y owned =
+    let s = c.self.inside in
+    let new : Kept = record { rows = c.remove.new.self.map; ended = c.insert.new.self; owned = c.take_from.new.groups.sets.map; spare = s.room } in
+    let member = still_owned s.rows.map (is_member s.owned.sets.map) c.args.id c.in-Some.object c.self.invariant.grouped.by_owner (sym c.in-Some.ensures.value) new c.in-Some.ensures.map
+    (is_member c.take_from.new.groups.sets.map)
+    (λ g x. c.take_from.ensures.members g x ∙ ap (λ its. if is_at g its && c.args.id == x then false else is_member s.owned.sets.map g x) c.owner-owner.ensures) x y owned in
+    let room = c.take_from.ensures.left x y member in
+    let was = ap (λ k. room_in k.owned x) c.self.view_is in
+    omega (arith, room, was)
+
+pub returns-in-Some-clause-others : goal.returns-in-Some-clause-others
+returns-in-Some-clause-others c x free =
+    let s = c.self.inside in
+    let apart = not_owner (kept_of s) c.args.id c.in-Some.object (sym c.in-Some.ensures.value) x (ap (λ k. owns (answers k) x c.args.id) c.self.view_is ∙ free) in
+    let room = c.take_from.ensures.others x (ap (is_at x) c.owner-owner.ensures ∙ apart) in
+    let was = ap (λ k. room_in k.owned x) c.self.view_is in
+    omega (arith, room, was)

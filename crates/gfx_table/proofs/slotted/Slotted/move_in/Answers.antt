@@ -7,7 +7,7 @@ use Rattle.gfx_table.proofs.Slotting.{moved}
 use Rattle.gfx_table.proofs.slotted.Slotted.move_in.Given.{Over}
 use Rattle.gfx_table.proofs.slotted.Slotted.move_in.Goals as goal
 
--- the row stands in its slot, and the rows are those that were there
+-- the row is in its slot, and the rows are those that were there
 moved_there : (g : Over) (c : goal.After-self-1 g) → let s = c.self.inside in let new = slice_set s.slots.items c.in-Some.slot (Some (c.args.id, c.in-Some-remove.row)) in let rest = map.remove s.rest.map c.args.id in
     IsSlotted s.mask c.displaces-self-inside.result new rest × (joined (filled new) rest ≡ joined (filled s.slots.items) s.rest.map)
 moved_there g c =
