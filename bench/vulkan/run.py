@@ -6,18 +6,19 @@
 The parts are
 
     examples   the captures and scripts of examples/
-    drawn      COUNT captures of `captures.py`, from SEED on: whole, and their frames 4 to 9 cut by `trim` and by `lean`; the driver is to
-               show the frames of a cut as it shows those of the whole, too
-    own        COUNT captures of `captures.py` for each of four rules that are the profile's own: bytes that Vulkan defines are compared,
-               and others that differ are counted
-    rules      a capture of one frame for each such rule (`own_rules.py`), with what the profile shows and what the driver does
+    drawn      COUNT captures of `captures.py`, from SEED on: whole, and their frames 4 to 9 cut by `trim` and `lean`;
+               the driver is to show the frames of a cut as it shows those of the whole, too
+    own        COUNT captures of `captures.py` for each of four rules that are the profile's own: bytes that Vulkan
+               defines are compared, and others that differ are counted
+    rules      a capture of one frame for each such rule (`own_rules.py`), with what the profile shows and what the
+               driver does
 
-and all of them where none is named. `player.cc` is what draws; it is built in /tmp/gfxcap_vulkan. With --validate the Khronos layer
-looks at it, and what it says is counted. Captures that differ are kept in FOLDER. The driver is Mesa's lavapipe where it is
-installed and VK_ICD_FILENAMES names no other.
+and all of them where none is named. `vulkan/player` is what draws; it is built in /tmp/gfxcap_vulkan. With --validate
+the Khronos layer looks at it, and what it says is counted. Captures that differ are kept in FOLDER. The driver is
+Mesa's lavapipe where it is installed and VK_ICD_FILENAMES names no other.
 
-The status is 0 where all bytes that Vulkan defines are equal, 1 where one differs, and 3 where a driver or what builds the player
-is missing.
+The status is 0 where all bytes that Vulkan defines are equal, 1 where one differs, and 3 where a driver or what builds
+the player is missing.
 """
 import argparse
 import collections
@@ -30,7 +31,6 @@ import re
 import shutil
 import subprocess
 import sys
-import tempfile
 import threading
 from concurrent.futures import ThreadPoolExecutor
 from typing import NamedTuple, Optional
@@ -38,10 +38,10 @@ from typing import NamedTuple, Optional
 from captures import OWN, TOP, capture_of
 from own_rules import CAPTURES
 
-HERE = os.path.dirname(os.path.abspath(__file__))
 PLACE = "/tmp/gfxcap_vulkan"
 PLAYER = os.path.join(PLACE, "player")
-PACKAGES = "on Debian: apt-get install g++ libvulkan-dev mesa-vulkan-drivers, and vulkan-validationlayers for --validate"
+PACKAGES = ("on Debian: apt-get install g++ make libvulkan-dev mesa-vulkan-drivers, and vulkan-validationlayers for "
+            "--validate")
 CUT = (4, 9)
 MISSING = 3
 MOST_SECONDS = 600
@@ -75,16 +75,14 @@ def environment(validate):
 
 def built_player(given):
     """Builds the player, and gives the driver's name."""
-    if not shutil.which("g++"):
-        raise Missing("there is no g++")
-    os.makedirs(PLACE, exist_ok=True)
-    made = f"{PLAYER}.{os.getpid()}"
-    words = ["g++", "-std=c++17", "-O2", "-Wall", "-o", made, os.path.join(HERE, "player.cc"), "-lvulkan"]
+    for tool in ("g++", "make"):
+        if not shutil.which(tool):
+            raise Missing(f"there is no {tool}")
+    words = ["make", "-C", os.path.join(TOP, "vulkan"), "player", f"OUT={PLACE}"]
     done = subprocess.run(words, capture_output=True, text=True)
     if done.returncode:
         line = next((line for line in done.stderr.splitlines() if "rror" in line), "")
         raise Missing(f"the player isn't built, is vulkan/vulkan.h there? {line}")
-    os.replace(made, PLAYER)
     driver = subprocess.run([PLAYER, "--driver"], capture_output=True, text=True, env=given)
     if driver.returncode:
         layer = " or its validation layer" if "VALIDATE" in given else ""
@@ -98,7 +96,8 @@ def ran(words, data=b"", **more):
     except subprocess.TimeoutExpired:
         raise Failed(f"{words[0]} takes too long") from None
     if done.returncode:
-        raise Failed(f"{os.path.basename(words[0])} {words[1]}: status {done.returncode}, {done.stderr.decode().strip()}")
+        said = done.stderr.decode().strip()
+        raise Failed(f"{os.path.basename(words[0])} {words[1]}: status {done.returncode}, {said}")
     return done
 
 
@@ -144,17 +143,17 @@ class Table:
 
     def drawn(self, data):
         """What the driver shows."""
-        with tempfile.NamedTemporaryFile(dir=PLACE) as out:
-            out.write(data)
-            out.flush()
-            done, pictures = ran([PLAYER, out.name], env=self.environment), []
+        done, pictures = ran([PLAYER, "--defined"], data, env=self.environment), []
         told = re.findall(r"^layer: (\d+) times (.*)$", done.stderr.decode(errors="replace"), re.M)
         self.count("layer", {message: int(times) for times, message in told})
         lines = iter(done.stdout.decode().splitlines())
-        for head in lines:
+        for line in lines:
+            if line.startswith("frames "):
+                return pictures
+            head, _ = line.rsplit(" ", 1)
             pixels = rows_of(lines, head)
             pictures.append(Picture(head, pixels, None if next(lines) == "all" else rows_of(lines, head)))
-        return pictures
+        raise Failed("the player tells no number of frames")
 
     def compare(self, part, data):
         """Counts what of a capture is equal, and gives what gfxcap shows and what the driver does."""
@@ -164,7 +163,8 @@ class Table:
         counts = collections.Counter(captures=1, images=len(mine))
         for one, other in zip(mine, theirs):
             defined = other.defined or b"\xff" * len(one.pixels)
-            unlike = [at for at, (a, b) in enumerate(zip(one.pixels, other.pixels)) if a != b] if one.pixels != other.pixels else []
+            is_equal = one.pixels == other.pixels
+            unlike = [] if is_equal else [at for at, (a, b) in enumerate(zip(one.pixels, other.pixels)) if a != b]
             counts["of them defined and equal"] += other.defined is None and not unlike
             counts["bytes"] += len(one.pixels)
             counts["of them not defined by Vulkan"] += defined.count(0)
@@ -197,8 +197,10 @@ class Table:
         return data
 
     def examples(self):
-        for path in sorted(glob.glob(os.path.join(TOP, "examples", "*.gfxcap")) + glob.glob(os.path.join(TOP, "examples", "*.script"))):
-            yield os.path.basename(path), functools.partial(self.example, path), functools.partial(self.compare, "examples")
+        paths = (glob.glob(os.path.join(TOP, "examples", f"*.{kind}")) for kind in ("gfxcap", "script"))
+        compare = functools.partial(self.compare, "examples")
+        for path in sorted(path for some in paths for path in some):
+            yield os.path.basename(path), functools.partial(self.example, path), compare
 
     def seeds(self):
         return range(self.given.seed, self.given.seed + self.given.count)
@@ -231,7 +233,8 @@ class Table:
     def compare_rule(self, name, data):
         (mine,), (theirs,) = self.compare("rules", data)
         count = len(mine.pixels) if theirs.defined is None else theirs.defined.count(255)
-        print(f"{name}: profile {mine.pixels.hex()}, driver {theirs.pixels.hex()}; Vulkan defines {count} bytes", flush=True)
+        shown = f"profile {mine.pixels.hex()}, driver {theirs.pixels.hex()}"
+        print(f"{name}: {shown}; Vulkan defines {count} bytes", flush=True)
 
     def run(self, part):
         items = self.drawn_captures() if part == "drawn" else getattr(self, part)()
@@ -240,7 +243,8 @@ class Table:
                 pass
         for name in COUNTED.get(part, (part,)):
             if name in self.counts:
-                print(f"{name}: " + ", ".join(f"{number:,} {what}" for what, number in self.counts[name].items()), flush=True)
+                counts = ", ".join(f"{number:,} {what}" for what, number in self.counts[name].items())
+                print(f"{name}: {counts}", flush=True)
         if part == "drawn" and not self.has_lean:
             print("lean: left out, since this program has no such word", flush=True)
         if self.given.validate:

@@ -1,5 +1,4 @@
-// Reads the blocks of a capture file and their fields, which docs/format.md describes. Whether the file is good is gfxcap's to
-// say: what is read here has been replayed by it.
+// Reads the fields of a capture's blocks, which docs/format.md describes.
 #pragma once
 #include <cstdint>
 #include <cstdio>
@@ -58,13 +57,3 @@ class Reader {
     return value;
   }
 };
-
-inline std::vector<uint8_t> file_content(const char *path) {
-  FILE *file = fopen(path, "rb");
-  if (!file) stop(std::string("no such file: ") + path);
-  std::vector<uint8_t> content;
-  uint8_t piece[65536];
-  for (size_t size; (size = fread(piece, 1, sizeof piece, file)) > 0;) content.insert(content.end(), piece, piece + size);
-  fclose(file);
-  return content;
-}

@@ -1,19 +1,22 @@
 // Says which bytes Vulkan defines. The driver can't tell: it has some byte everywhere.
 //
-// Each byte of a place has the number of the view through which it was written, or 0 where Vulkan doesn't say what it is: it was
-// never written, it was lost in a change of layout from UNDEFINED, or it comes from a byte that isn't defined. All buffers and
-// the program's own writes are one view, since bytes in a row mean the same to all of them; each image is a view of its own.
-// What is read through another view than it was written through isn't defined.
+// Each byte of a place has the number of the view through which it was written, or 0 where Vulkan doesn't say what it
+// is: it was never written, it was lost in a change of layout from UNDEFINED, or it comes from a byte that isn't
+// defined. All buffers and the program's own writes are one view, since bytes in a row mean the same to all of them;
+// each image is a view of its own. What is read through another view than it was written through isn't defined.
 #pragma once
 #include <cstdint>
 #include <memory>
 #include <vector>
 
+// Whether any of this is asked for.
+inline bool follows_defined = false;
+
 constexpr uint32_t NOT_DEFINED = 0, IN_A_ROW = 1;
 
 struct Place {
   std::vector<uint32_t> writers;
-  explicit Place(uint64_t size) : writers(size, NOT_DEFINED) {}
+  explicit Place(uint64_t size) : writers(follows_defined ? size : 0, NOT_DEFINED) {}
 };
 
 struct View {
@@ -39,15 +42,18 @@ template <class Each>
 void for_each_byte(const std::vector<Rows> &parts, Each each) {
   for (const Rows &part : parts)
     for (uint64_t row = 0; row < part.count; row++)
-      for (uint64_t at = 0; at < part.length; at++) each(part.to + row * part.to_step + at, part.from + row * part.from_step + at);
+      for (uint64_t at = 0; at < part.length; at++)
+        each(part.to + row * part.to_step + at, part.from + row * part.from_step + at);
 }
 
 inline void write(const View &view, uint64_t offset, uint64_t length, bool is_defined = true) {
+  if (!follows_defined) return;
   for (uint64_t at = offset; at < offset + length; at++) view.writer(at) = is_defined ? view.number : NOT_DEFINED;
 }
 
 // A copy whose source and target overlap defines nothing, and neither does a byte that it writes twice.
 inline void copy(const View &target, const View &source, const std::vector<Rows> &parts, bool is_allowed) {
+  if (!follows_defined) return;
   std::vector<uint8_t> times(target.place->writers.size());
   bool overlaps = false;
   for_each_byte(parts, [&](uint64_t to, uint64_t) { times[target.offset + to] += times[target.offset + to] < 2; });

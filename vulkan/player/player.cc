@@ -1,19 +1,23 @@
-// Plays a capture file on a Vulkan driver.
+// Draws a capture on a Vulkan driver, and prints what `gfxcap replay` prints of it.
 //
-//   player --driver    prints the driver's name and version; status 3 where there is none
-//   player FILE        prints each image that is shown as `gfxcap replay --pixels` does, without its digest; then `all` where
-//                      Vulkan defines all of its bytes, and else `some` and rows in which defined bytes are ff, and others 00
+//   player [--pixels] < FILE    with --pixels also the rows of each image
+//   player --defined < FILE     rows, and behind those of each image `all` where Vulkan defines all of its bytes, or
+//                               else `some` and rows in which defined bytes are ff, and others 00
+//   player --driver             the driver's name and version; status 3 where there is none
 //
-// Each call of the capture is made on the driver, and these stand in for what the profile has and a driver hasn't:
+// Whether the file is good is gfxcap's to say: a player stops with status 1 where it can't go on. Each call of the
+// capture is made on the driver, and these stand in for what the profile has and a driver hasn't:
 //
-//   - A swapchain is images of the player's own. An acquire is an empty submit that signals. A present is a submit that waits,
-//     and a copy of the image to where the player reads it.
+//   - A swapchain is images of the player's own. An acquire is an empty submit that signals. A present is a submit that
+//     waits, and a copy of the image to where the player reads it.
 //   - Each image has memory of its own, tiled as the driver likes.
 //   - Memory and images are zeros when they are made.
 //   - A barrier over all memory stands behind each command, since the profile does commands in order.
 //   - Each submit is waited for.
 //
-// With VALIDATE in the environment the Khronos validation layer looks at all of it, and what it says is on standard error.
+// With VALIDATE in the environment the Khronos validation layer looks at all of it, and what it says is on standard
+// error.
+#include <algorithm>
 #include <array>
 
 #include "recorder.h"
@@ -30,6 +34,7 @@ class Player : public Recorder {
     next_frame = frame;
   }
   void end_section() { in_section = false; }
+  void print_count() const { printf("frames %llu\n", static_cast<unsigned long long>(shown)); }
 
   void call(uint32_t number, Reader &fields) {
     if (number == 0 || number >= methods.size()) stop("an unknown call");
@@ -38,10 +43,14 @@ class Player : public Recorder {
 
   void metadata(uint32_t number, Reader &fields) {
     switch (number) {
-      case 2: return fill_memory(fields);
-      case 3: return init_image(fields);
-      case 4: return set_swapchain_state(fields);
-      case 5: return set_semaphore_state(fields);
+      case 2:
+        return fill_memory(fields);
+      case 3:
+        return init_image(fields);
+      case 4:
+        return set_swapchain_state(fields);
+      case 5:
+        return set_semaphore_state(fields);
     }
     stop("an unknown metadata");
   }
@@ -50,7 +59,7 @@ class Player : public Recorder {
   using Method = void (Player::*)(Reader &);
 
   uint32_t minor;
-  uint64_t next_frame = 1;
+  uint64_t next_frame = 1, shown = 0;
   Objects<Swapchain> swapchains;
   std::map<Id, VkFence> fences;
   Objects<Semaphore> semaphores;
@@ -80,7 +89,8 @@ class Player : public Recorder {
   }
 
   static void same_answer(VkResult given, uint32_t recorded) {
-    if (static_cast<uint32_t>(given) != recorded) stop("the driver answers " + std::to_string(given) + " where the capture has " + std::to_string(recorded));
+    if (static_cast<uint32_t>(given) != recorded)
+      stop("the driver answers " + std::to_string(given) + " where the capture has " + std::to_string(recorded));
   }
 
   void wait_for_fences(Reader &fields) {
@@ -88,7 +98,8 @@ class Player : public Recorder {
     auto device = of(devices, fields.id());
     auto some = all_of(fences, fields.ids());
     uint32_t all = fields.word(), answer = fields.word();
-    same_answer(vkWaitForFences(device->handle, some.size(), some.data(), all, answer == VK_SUCCESS ? FIVE_SECONDS : 0), answer);
+    same_answer(vkWaitForFences(device->handle, some.size(), some.data(), all, answer == VK_SUCCESS ? FIVE_SECONDS : 0),
+                answer);
   }
 
   void fence_status(Reader &fields) {
@@ -199,6 +210,7 @@ class Player : public Recorder {
       (*swapchain->acquired)[index] = false;
     }
     next_frame++;
+    shown++;
   }
 
   // --- Metadata
@@ -302,34 +314,66 @@ void play_block(Player &player, uint32_t kind, Reader payload) {
   }
 }
 
-void play(const std::vector<uint8_t> &file) {
-  Reader blocks(file.data(), file.data() + file.size());
-  blocks.take(8);
-  Player player(blocks.word());
-  blocks.take(8 * static_cast<uint64_t>(blocks.word()));
-  while (!blocks.is_empty()) {
-    current_block++;
-    uint64_t size = blocks.size();
-    uint32_t kind = blocks.word();
-    Bytes payload = blocks.take(size);
-    play_block(player, kind, Reader(payload.data, payload.data + payload.size));
+// Reads a number of bytes, and fewer at the end of the file.
+std::vector<uint8_t> read_up_to(uint64_t count) {
+  constexpr uint64_t PIECE = 1 << 20;  // room is made for bytes that came
+  std::vector<uint8_t> bytes;
+  while (bytes.size() < count) {
+    size_t old = bytes.size();
+    bytes.resize(old + std::min(PIECE, count - old));
+    size_t came = fread(&bytes[old], 1, bytes.size() - old, stdin);
+    bytes.resize(old + came);
+    if (!came) break;
   }
+  return bytes;
+}
+
+Reader reader_of(const std::vector<uint8_t> &bytes) { return Reader(bytes.data(), bytes.data() + bytes.size()); }
+
+Player player_of_header() {
+  auto header = read_up_to(16);
+  Reader fields = reader_of(header);
+  fields.take(8);
+  uint32_t minor = fields.word();
+  read_up_to(8 * static_cast<uint64_t>(fields.word()));
+  return Player(minor);
+}
+
+void play() {
+  Player player = player_of_header();
+  for (;;) {
+    auto head = read_up_to(12);
+    if (head.empty()) break;
+    current_block++;
+    Reader fields = reader_of(head);
+    uint64_t size = fields.size();
+    uint32_t kind = fields.word();
+    auto payload = read_up_to(size);
+    if (payload.size() < size) stop("the file ends too early");
+    play_block(player, kind, reader_of(payload));
+  }
+  player.print_count();
+}
+
+int print_driver() {
+  std::string name = driver_name();
+  if (name.empty()) return 3;
+  puts(name.c_str());
+  return 0;
 }
 
 }  // namespace
 
 int main(int count, char **words) {
-  if (count != 2) {
-    fputs("usage: player --driver; player FILE\n", stderr);
+  std::string word = count == 2 ? words[1] : "";
+  if (word == "--driver") return print_driver();
+  prints_rows = word == "--pixels" || word == "--defined";
+  follows_defined = word == "--defined";
+  if (count > 2 || (count == 2 && !prints_rows)) {
+    fputs("usage: player [--pixels | --defined] < FILE; player --driver\n", stderr);
     return 2;
   }
-  if (std::string(words[1]) == "--driver") {
-    std::string name = driver_name();
-    if (name.empty()) return 3;
-    puts(name.c_str());
-    return 0;
-  }
-  play(file_content(words[1]));
+  play();
   fflush(stdout);
   for (auto &[name, times] : messages) fprintf(stderr, "layer: %d times %s\n", times, name.c_str());
   fflush(stderr);

@@ -52,7 +52,8 @@ class Resources {
   void destroy_device(Reader &fields) {
     Id id = fields.id();
     auto device = of(devices, id);
-    for (auto queue = queues.begin(); queue != queues.end();) queue = queue->second == device ? queues.erase(queue) : std::next(queue);
+    for (auto queue = queues.begin(); queue != queues.end();)
+      queue = queue->second == device ? queues.erase(queue) : std::next(queue);
     device->destroy();
     devices.erase(id);
   }
@@ -112,7 +113,8 @@ class Resources {
     uint32_t usage = fields.word() & (VK_BUFFER_USAGE_TRANSFER_SRC_BIT | VK_BUFFER_USAGE_TRANSFER_DST_BIT);
     VkBufferCreateInfo info = {VK_STRUCTURE_TYPE_BUFFER_CREATE_INFO};
     info.size = buffer->size;
-    info.usage = usage ? usage : VK_BUFFER_USAGE_UNIFORM_BUFFER_BIT;
+    info.usage = usage;
+    if (!usage) info.usage = VK_BUFFER_USAGE_UNIFORM_BUFFER_BIT;
     CHECK(vkCreateBuffer(buffer->device->handle, &info, nullptr, &buffer->handle));
     buffers[id] = buffer;
   }
@@ -131,7 +133,8 @@ class Resources {
     uint64_t offset = fields.size();
     VkMemoryRequirements wanted;
     vkGetBufferMemoryRequirements(buffer->device->handle, buffer->handle, &wanted);
-    if (offset % wanted.alignment) stop("this driver wants buffers at multiples of " + std::to_string(wanted.alignment));
+    if (offset % wanted.alignment)
+      stop("this driver wants buffers at multiples of " + std::to_string(wanted.alignment));
     CHECK(vkBindBufferMemory(buffer->device->handle, buffer->handle, memory->handle, offset));
     buffer->view = {memory->place, offset, IN_A_ROW};
   }

@@ -2,16 +2,22 @@
 #pragma once
 #include "defined.h"
 #include "driver.h"
+#include "sha256.h"
 
 enum Format : uint32_t { R8_UINT = 13, R8G8B8A8_UNORM = 37, R8G8B8A8_UINT = 41, B8G8R8A8_UNORM = 44, R32_UINT = 98 };
 
 inline const char *name_of(uint32_t format) {
   switch (format) {
-    case R8_UINT: return "R8_UINT";
-    case R8G8B8A8_UNORM: return "R8G8B8A8_UNORM";
-    case R8G8B8A8_UINT: return "R8G8B8A8_UINT";
-    case B8G8R8A8_UNORM: return "B8G8R8A8_UNORM";
-    case R32_UINT: return "R32_UINT";
+    case R8_UINT:
+      return "R8_UINT";
+    case R8G8B8A8_UNORM:
+      return "R8G8B8A8_UNORM";
+    case R8G8B8A8_UINT:
+      return "R8G8B8A8_UINT";
+    case B8G8R8A8_UNORM:
+      return "B8G8R8A8_UNORM";
+    case R32_UINT:
+      return "R32_UINT";
   }
   stop("an unknown format");
 }
@@ -94,8 +100,10 @@ inline void fill(const Image &image, const uint8_t *bytes, uint32_t layout) {
   else memset(staged, 0, image.size());
   image.device->at_once([&](VkCommandBuffer commands) {
     VkBufferImageCopy region = all_of(image);
-    full_barrier(commands, {layout_change(image.handle, VK_IMAGE_LAYOUT_UNDEFINED, VK_IMAGE_LAYOUT_TRANSFER_DST_OPTIMAL)});
-    vkCmdCopyBufferToImage(commands, image.device->staging, image.handle, VK_IMAGE_LAYOUT_TRANSFER_DST_OPTIMAL, 1, &region);
+    full_barrier(commands,
+                 {layout_change(image.handle, VK_IMAGE_LAYOUT_UNDEFINED, VK_IMAGE_LAYOUT_TRANSFER_DST_OPTIMAL)});
+    vkCmdCopyBufferToImage(commands, image.device->staging, image.handle, VK_IMAGE_LAYOUT_TRANSFER_DST_OPTIMAL, 1,
+                           &region);
     full_barrier(commands);
     if (layout) full_barrier(commands, {layout_change(image.handle, VK_IMAGE_LAYOUT_TRANSFER_DST_OPTIMAL, layout)});
   });
@@ -138,17 +146,24 @@ inline void print_rows(const std::vector<uint8_t> &bytes, uint64_t row) {
   fputs(line.c_str(), stdout);
 }
 
-inline void show(const Image &image, const std::string &number) {
+// What is printed of an image beside its line.
+inline bool prints_rows = false;
+
+// The bytes of an image that is to be presented, in staging memory.
+inline uint8_t *read(const Image &image) {
   uint8_t *staged = image.device->stage(image.size());
   image.device->at_once([&](VkCommandBuffer commands) {
     constexpr uint32_t SHOWN = VK_IMAGE_LAYOUT_PRESENT_SRC_KHR, READ = VK_IMAGE_LAYOUT_TRANSFER_SRC_OPTIMAL;
     VkBufferImageCopy region = all_of(image);
     full_barrier(commands, {layout_change(image.handle, SHOWN, READ)});
-    vkCmdCopyImageToBuffer(commands, image.handle, VK_IMAGE_LAYOUT_TRANSFER_SRC_OPTIMAL, image.device->staging, 1, &region);
+    vkCmdCopyImageToBuffer(commands, image.handle, VK_IMAGE_LAYOUT_TRANSFER_SRC_OPTIMAL, image.device->staging, 1,
+                           &region);
     full_barrier(commands, {layout_change(image.handle, READ, SHOWN)});
   });
-  printf("frame %s %ux%u %s\n", number.c_str(), image.width, image.height, name_of(image.format));
-  print_rows({staged, staged + image.size()}, image.row());
+  return staged;
+}
+
+inline void print_defined(const Image &image) {
   std::vector<uint8_t> defined;
   bool all = true;
   for (uint64_t at = 0; at < image.size(); at++) {
@@ -157,4 +172,12 @@ inline void show(const Image &image, const std::string &number) {
   }
   puts(all ? "all" : "some");
   if (!all) print_rows(defined, image.row());
+}
+
+inline void show(const Image &image, const std::string &number) {
+  const uint8_t *bytes = read(image);
+  std::string digest = Sha256::of(bytes, image.size());
+  printf("frame %s %ux%u %s %s\n", number.c_str(), image.width, image.height, name_of(image.format), digest.c_str());
+  if (prints_rows) print_rows({bytes, bytes + image.size()}, image.row());
+  if (follows_defined) print_defined(image);
 }

@@ -23,7 +23,8 @@ class Recorder : public Resources {
     fields.id();
     Id id = fields.id();
     vkDestroyCommandPool(of(pools, id)->device->handle, of(pools, id)->handle, nullptr);
-    for (auto one = commands.begin(); one != commands.end();) one = one->second->pool == id ? commands.erase(one) : std::next(one);
+    for (auto one = commands.begin(); one != commands.end();)
+      one = one->second->pool == id ? commands.erase(one) : std::next(one);
     pools.erase(id);
   }
 
@@ -136,10 +137,12 @@ class Recorder : public Resources {
       region.srcOffset = {static_cast<int32_t>(from_x), static_cast<int32_t>(from_y), 0};
       region.dstOffset = {static_cast<int32_t>(to_x), static_cast<int32_t>(to_y), 0};
       region.extent = {width, height, 1};
-      uint64_t from = from_y * source->row() + from_x * source->texel(), into = to_y * target->row() + to_x * target->texel();
+      uint64_t from = from_y * source->row() + from_x * source->texel(),
+               into = to_y * target->row() + to_x * target->texel();
       rows.push_back({into, target->row(), from, source->row(), width * source->texel(), height});
     }
-    vkCmdCopyImage(to->handle, source->handle, source_layout, target->handle, target_layout, regions.size(), regions.data());
+    vkCmdCopyImage(to->handle, source->handle, source_layout, target->handle, target_layout, regions.size(),
+                   regions.data());
     recorded(*to, [=] { copy(target->view, source->view, rows, source->is_usable() && target->is_usable()); });
   }
 
@@ -196,6 +199,7 @@ class Recorder : public Resources {
     for (uint32_t &part : color.uint32) part = fields.word();
     vkCmdClearColorImage(to->handle, image->handle, layout, &color, 1, &ALL_OF_IMAGE);
     recorded(*to, [=] {
+      if (!follows_defined) return;
       uint64_t parts = image->format == R8G8B8A8_UINT ? 4 : 1;
       for (uint64_t at = 0; at < image->size(); at++) {
         bool fits = image->format == R32_UINT || color.uint32[at % parts] < 256;

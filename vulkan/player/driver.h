@@ -1,5 +1,5 @@
-// What the player asks of a Vulkan driver beside the calls of a capture: an instance, a device with one queue, memory, a staging
-// buffer, and commands of its own that are done at once.
+// What the player asks of a Vulkan driver beside the calls of a capture: an instance, a device with one queue, memory,
+// a staging buffer, and commands of its own that are done at once.
 #pragma once
 #include <vulkan/vulkan.h>
 
@@ -17,10 +17,11 @@ inline void check(VkResult result, const char *what) {
 // Messages of the validation layer, each with how often it came.
 inline std::map<std::string, int> messages;
 
-inline VkBool32 VKAPI_PTR on_message(
-    VkDebugUtilsMessageSeverityFlagBitsEXT, VkDebugUtilsMessageTypeFlagsEXT, const VkDebugUtilsMessengerCallbackDataEXT *data, void *) {
+inline VkBool32 VKAPI_PTR on_message(VkDebugUtilsMessageSeverityFlagBitsEXT, VkDebugUtilsMessageTypeFlagsEXT,
+                                     const VkDebugUtilsMessengerCallbackDataEXT *data, void *) {
   std::string name = data->pMessageIdName ? data->pMessageIdName : "message";
-  if (messages[name]++ == 0) fprintf(stderr, "layer: block %llu: %s\n", static_cast<unsigned long long>(current_block), data->pMessage);
+  if (messages[name]++ == 0)
+    fprintf(stderr, "layer: block %llu: %s\n", static_cast<unsigned long long>(current_block), data->pMessage);
   return VK_FALSE;
 }
 
@@ -30,7 +31,8 @@ inline VkResult new_instance(VkInstance *instance) {
   VkApplicationInfo application = {VK_STRUCTURE_TYPE_APPLICATION_INFO};
   application.apiVersion = VK_API_VERSION_1_1;
   VkDebugUtilsMessengerCreateInfoEXT messenger = {VK_STRUCTURE_TYPE_DEBUG_UTILS_MESSENGER_CREATE_INFO_EXT};
-  messenger.messageSeverity = VK_DEBUG_UTILS_MESSAGE_SEVERITY_ERROR_BIT_EXT | VK_DEBUG_UTILS_MESSAGE_SEVERITY_WARNING_BIT_EXT;
+  messenger.messageSeverity =
+      VK_DEBUG_UTILS_MESSAGE_SEVERITY_ERROR_BIT_EXT | VK_DEBUG_UTILS_MESSAGE_SEVERITY_WARNING_BIT_EXT;
   messenger.messageType = VK_DEBUG_UTILS_MESSAGE_TYPE_VALIDATION_BIT_EXT;
   messenger.pfnUserCallback = on_message;
   const char *layers[] = {"VK_LAYER_KHRONOS_validation"};
@@ -45,7 +47,8 @@ inline VkResult new_instance(VkInstance *instance) {
   VkResult result = vkCreateInstance(&info, nullptr, instance);
   if (result != VK_SUCCESS || !validate) return result;
   VkDebugUtilsMessengerEXT made;
-  auto make = reinterpret_cast<PFN_vkCreateDebugUtilsMessengerEXT>(vkGetInstanceProcAddr(*instance, "vkCreateDebugUtilsMessengerEXT"));
+  auto make = reinterpret_cast<PFN_vkCreateDebugUtilsMessengerEXT>(
+      vkGetInstanceProcAddr(*instance, "vkCreateDebugUtilsMessengerEXT"));
   return make(*instance, &messenger, nullptr, &made);
 }
 
@@ -60,8 +63,8 @@ inline VkPhysicalDevice first_physical_device(VkInstance instance) {
 inline void full_barrier(VkCommandBuffer commands, const std::vector<VkImageMemoryBarrier> &images = {}) {
   VkMemoryBarrier memory = {VK_STRUCTURE_TYPE_MEMORY_BARRIER};
   memory.srcAccessMask = memory.dstAccessMask = VK_ACCESS_MEMORY_READ_BIT | VK_ACCESS_MEMORY_WRITE_BIT;
-  vkCmdPipelineBarrier(
-      commands, VK_PIPELINE_STAGE_ALL_COMMANDS_BIT, VK_PIPELINE_STAGE_ALL_COMMANDS_BIT, 0, 1, &memory, 0, nullptr, images.size(), images.data());
+  vkCmdPipelineBarrier(commands, VK_PIPELINE_STAGE_ALL_COMMANDS_BIT, VK_PIPELINE_STAGE_ALL_COMMANDS_BIT, 0, 1, &memory,
+                       0, nullptr, images.size(), images.data());
 }
 
 constexpr VkImageSubresourceRange ALL_OF_IMAGE = {VK_IMAGE_ASPECT_COLOR_BIT, 0, 1, 0, 1};
@@ -118,7 +121,9 @@ class Device {
   // Memory of a type that one of `bits` stands for and that has all of `flags`.
   VkDeviceMemory memory(uint64_t size, uint32_t bits, VkMemoryPropertyFlags flags) const {
     uint32_t type = 0;
-    while (type < types.memoryTypeCount && !(bits >> type & 1 && (types.memoryTypes[type].propertyFlags & flags) == flags)) type++;
+    while (type < types.memoryTypeCount &&
+           !(bits >> type & 1 && (types.memoryTypes[type].propertyFlags & flags) == flags))
+      type++;
     if (type == types.memoryTypeCount) stop("the driver has no such memory");
     VkMemoryAllocateInfo info = {VK_STRUCTURE_TYPE_MEMORY_ALLOCATE_INFO};
     info.allocationSize = size;
@@ -172,7 +177,8 @@ class Device {
     return staging_bytes;
   }
 
-  static constexpr VkMemoryPropertyFlags MAPPABLE = VK_MEMORY_PROPERTY_HOST_VISIBLE_BIT | VK_MEMORY_PROPERTY_HOST_COHERENT_BIT;
+  static constexpr VkMemoryPropertyFlags MAPPABLE =
+      VK_MEMORY_PROPERTY_HOST_VISIBLE_BIT | VK_MEMORY_PROPERTY_HOST_COHERENT_BIT;
   VkDevice handle;
   VkQueue queue;
   VkBuffer staging = VK_NULL_HANDLE;
